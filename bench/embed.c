@@ -64,6 +64,8 @@ static void no_handles(void) {
     EXPECT(kioskbasil_meet(&r, &ear, &order), KIOSKBASIL_EMPTY_HANDLE);
     EXPECT(kioskbasil_meet(&r, &r, &order), KIOSKBASIL_EMPTY_HANDLE);
     EXPECT(order, 7);
+    EXPECT(kioskbasil_fork(&r, &ear), KIOSKBASIL_EMPTY_HANDLE);
+    EXPECT(kioskbasil_fork(&r, &r), KIOSKBASIL_EMPTY_HANDLE);
     EXPECT(kioskbasil_close(&s), KIOSKBASIL_EMPTY_HANDLE);
     EXPECT(kioskbasil_leave(&s), KIOSKBASIL_EMPTY_HANDLE);
     EXPECT(kioskbasil_turn(&s, 1, &turn), KIOSKBASIL_EMPTY_HANDLE);
@@ -102,6 +104,9 @@ static void no_handles(void) {
     EXPECT(kioskbasil_tell(&r, NULL), KIOSKBASIL_NULL);
     EXPECT(kioskbasil_meet(NULL, &r, &order), KIOSKBASIL_NULL);
     EXPECT(kioskbasil_meet(&r, NULL, &order), KIOSKBASIL_NULL);
+    EXPECT(kioskbasil_fork(NULL, &r), KIOSKBASIL_NULL);
+    EXPECT(kioskbasil_fork(&r, NULL), KIOSKBASIL_NULL);
+    EXPECT(ear.live, 0);
     EXPECT(kioskbasil_turn(NULL, 1, &turn), KIOSKBASIL_NULL);
     EXPECT(kioskbasil_turns(NULL, 1, &turn), KIOSKBASIL_NULL);
     EXPECT(kioskbasil_show_sender(&s, NULL), KIOSKBASIL_NULL);
@@ -114,9 +119,9 @@ static void no_handles(void) {
     EXPECT(kioskbasil_senders_page(NULL, 1, &left), KIOSKBASIL_NULL);
     EXPECT(kioskbasil_senders_page(&s, 0, &left), KIOSKBASIL_NULL);
     EXPECT(kioskbasil_senders_page(&s, 1, NULL), KIOSKBASIL_NULL);
-    for (uint32_t code = 0; code <= KIOSKBASIL_NEVER_FITS + 1; code++) {
+    for (uint32_t code = 0; code <= KIOSKBASIL_USED_HANDLE + 1; code++) {
         int named = code <= KIOSKBASIL_NOT_LONG ||
-                    (code >= KIOSKBASIL_BAD_SENDERS && code <= KIOSKBASIL_NEVER_FITS);
+                    (code >= KIOSKBASIL_BAD_SENDERS && code <= KIOSKBASIL_USED_HANDLE);
         EXPECT(strcmp(kioskbasil_text(code), "no code of this version") != 0, named);
         EXPECT(kioskbasil_refused(code), code >= 32);
     }
@@ -791,6 +796,24 @@ static void no_memory(kioskbasil_sizes sizes, const kioskbasil_left *left) {
     EXPECT(none > 6, true);
 }
 
+/* Memory for a fork is refused: the handle stays empty, and the number is free again. */
+static void no_memory_to_fork(bool ring) {
+    kioskbasil_sender s[1] = {KIOSKBASIL_NONE};
+    kioskbasil_receiver r[2] = {KIOSKBASIL_NONE};
+    kioskbasil_sizes sizes = {1, 4, 64, true, ring};
+    kioskbasil_left left;
+    EXPECT(kioskbasil_open(&sizes, s, 1, r, 2), KIOSKBASIL_OK);
+    kioskbasil_free_receiver(&r[1]);
+    for (int i = 0; i < 3; i++) {
+        refused = 1;
+        EXPECT(kioskbasil_fork(&r[0], &r[1]), KIOSKBASIL_NO_MEMORY);
+        EXPECT(refused, 0);
+        EXPECT(r[1].live, 0);
+    }
+    EXPECT(kioskbasil_fork(&r[0], &r[1]), KIOSKBASIL_OK);
+    EXPECT(kioskbasil_end(s, 1, r, 2, NULL, 0, &left), KIOSKBASIL_OK);
+}
+
 /* A sender leaves: nothing of it follows, the other goes on, and the order and its end say so. In
    the next sitting it is there. */
 static void leaving(bool again) {
@@ -974,6 +997,106 @@ static void ring_left(bool by_end) {
     EXPECT(kioskbasil_end(s, 1, r, 1, NULL, 0, &left), KIOSKBASIL_OK);
     EXPECT(left.words, 18);
     EXPECT(left.floor, 18);
+    EXPECT(left.counts[0], 2);
+}
+
+/* Hears one item of each, which is the same, with this number, and compares all that they show. */
+static void hear_alike(kioskbasil_receiver *r, int count, uint64_t number) {
+    kioskbasil_receiver_shown first, shown;
+    kioskbasil_item items[2];
+    size_t many = 0;
+    for (int i = 0; i < count; i++) {
+        EXPECT(kioskbasil_hear(&r[i], items, 2, &many), KIOSKBASIL_EMPTY);
+        EXPECT(many, 1);
+        EXPECT(items[0].number, number);
+        EXPECT(kioskbasil_show_receiver(&r[i], i ? &shown : &first), KIOSKBASIL_OK);
+        if (i) EXPECT(shown.place == first.place && shown.passed == first.passed, true);
+    }
+}
+
+/* Receivers join a ring of three, of which the last two were given up at the start: by a fork, by a
+   fork of that, and no third one. All hear the same from there on, over more than the ring's length.
+   One that is given up frees its number. */
+static void forks_of_a_ring(void) {
+    kioskbasil_sender s[1] = {KIOSKBASIL_NONE};
+    kioskbasil_receiver r[3] = {KIOSKBASIL_NONE}, more = KIOSKBASIL_NONE;
+    kioskbasil_sizes sizes = {1, 2, 16, false, false};
+    kioskbasil_left left;
+    uint64_t seed = 73;
+    EXPECT(kioskbasil_open_ring(&sizes, s, 1, r, 3), KIOSKBASIL_OK);
+    EXPECT(kioskbasil_fork(&r[0], &more), KIOSKBASIL_NO_SEAT);
+    kioskbasil_free_receiver(&r[1]), kioskbasil_free_receiver(&r[2]);
+    for (uint64_t i = 0; i < 5; i++) send_one(s, i, &seed), hear_alike(r, 1, i);
+    EXPECT(kioskbasil_fork(&r[0], &r[1]), KIOSKBASIL_OK);
+    EXPECT(kioskbasil_fork(&r[0], &r[1]), KIOSKBASIL_USED_HANDLE);
+    EXPECT(kioskbasil_fork(&r[1], &r[1]), KIOSKBASIL_USED_HANDLE);
+    for (uint64_t i = 5; i < 10; i++) send_one(s, i, &seed), hear_alike(r, 2, i);
+    EXPECT(kioskbasil_fork(&r[1], &r[2]), KIOSKBASIL_OK);
+    for (int i = 0; i < 3; i++) EXPECT(kioskbasil_fork(&r[i], &more), KIOSKBASIL_NO_SEAT);
+    EXPECT(more.live, 0);
+    for (uint64_t i = 10; i < 30; i++) send_one(s, i, &seed), hear_alike(r, 3, i);
+    /* The one in the middle is given up, and its number is taken again: by the first, not the last. */
+    kioskbasil_free_receiver(&r[1]);
+    EXPECT(kioskbasil_fork(&r[2], &r[1]), KIOSKBASIL_NO_SEAT);
+    EXPECT(kioskbasil_fork(&r[0], &r[1]), KIOSKBASIL_OK);
+    for (uint64_t i = 30; i < 40; i++) send_one(s, i, &seed), hear_alike(r, 3, i);
+    /* A fork that does not hear holds the ring up, until it is given up. */
+    for (uint64_t i = 40; i < 45; i++) send_one(s, i, &seed), hear_alike(r, 2, i);
+    put_long(s);
+    EXPECT(send_batch(s, &seed, NULL, NULL), KIOSKBASIL_FULL);
+    kioskbasil_free_receiver(&r[2]);
+    EXPECT(send_batch(s, &seed, NULL, NULL), KIOSKBASIL_DELIVERED);
+    hear_alike(r, 2, 45);
+    EXPECT(end_order(s, &seed, NULL), KIOSKBASIL_CLOSED);
+    EXPECT(kioskbasil_end(s, 1, r, 2, NULL, 0, &left), KIOSKBASIL_OK);
+    EXPECT(left.counts[0], 46);
+    EXPECT(r[0].live + r[1].live + r[2].live, 0);
+}
+
+/* A fork within a frame of which its maker has heard the half, and after the end. */
+static void forks_within_a_frame(bool ring) {
+    kioskbasil_sender s[1] = {KIOSKBASIL_NONE};
+    kioskbasil_receiver r[4] = {KIOSKBASIL_NONE};
+    kioskbasil_sizes sizes = {1, 8, 16, true, ring};
+    kioskbasil_heard heard;
+    kioskbasil_item items[4];
+    kioskbasil_left left;
+    uint64_t seed = 79;
+    size_t many = 0;
+    EXPECT(kioskbasil_open(&sizes, s, 1, r, 4), KIOSKBASIL_OK);
+    kioskbasil_free_receiver(&r[2]), kioskbasil_free_receiver(&r[3]);
+    for (int i = 0; i < 3; i++) EXPECT(kioskbasil_put(s, "abc", 3, NULL), KIOSKBASIL_OK);
+    EXPECT(send_batch(s, &seed, NULL, NULL), KIOSKBASIL_DELIVERED);
+    do EXPECT(kioskbasil_hear_once(&r[0], &heard) != KIOSKBASIL_END, true);
+    while (heard.item.length == 0);
+    EXPECT(kioskbasil_fork(&r[0], &r[2]), KIOSKBASIL_OK);
+    for (int i = 0; i < 3; i++) {
+        EXPECT(kioskbasil_hear(&r[i], items, 4, &many), KIOSKBASIL_EMPTY);
+        EXPECT(many, i == 1 ? 3 : 2);
+        EXPECT(items[many - 1].number, 2);
+    }
+    EXPECT(end_order(s, &seed, NULL), KIOSKBASIL_CLOSED);
+    for (int i = 0; i < 3; i++) EXPECT(kioskbasil_hear(&r[i], items, 4, &many), KIOSKBASIL_END);
+    EXPECT(kioskbasil_fork(&r[2], &r[3]), KIOSKBASIL_OK);
+    EXPECT(kioskbasil_hear(&r[3], items, 4, &many), KIOSKBASIL_END);
+    EXPECT(many, 0);
+    EXPECT(kioskbasil_end(s, 1, r, 3, NULL, 0, &left), KIOSKBASIL_IN_USE);
+    kioskbasil_free_receiver(&r[3]);
+}
+
+/* Of a bus that is no ring a fork is never refused a number, not of more than it was opened with. */
+static void forks_without_end(bool again) {
+    enum { MANY = KIOSKBASIL_MOST_RECEIVERS + 6 };
+    kioskbasil_sender s[1] = {KIOSKBASIL_NONE};
+    kioskbasil_receiver r[MANY] = {KIOSKBASIL_NONE};
+    kioskbasil_sizes sizes = {1, 8, 64, again, false};
+    kioskbasil_left left;
+    uint64_t seed = 83;
+    EXPECT(kioskbasil_open(&sizes, s, 1, r, 1), KIOSKBASIL_OK);
+    send_one(s, 0, &seed), hear_alike(r, 1, 0);
+    for (int i = 1; i < MANY; i++) EXPECT(kioskbasil_fork(&r[i / 2], &r[i]), KIOSKBASIL_OK);
+    send_one(s, 1, &seed), hear_alike(r, MANY, 1);
+    EXPECT(kioskbasil_end(s, 1, r, MANY, NULL, 0, &left), KIOSKBASIL_OK);
     EXPECT(left.counts[0], 2);
 }
 
@@ -1380,6 +1503,10 @@ int main(int count, char **words) {
         }
         behind();
         ring_again(), ring_of_most(), ring_left(false), ring_left(true);
+        forks_of_a_ring();
+        for (int i = 0; i < 2; i++) {
+            forks_within_a_frame(i == 1), forks_without_end(i == 1), no_memory_to_fork(i == 1);
+        }
         for (int i = 0; i < 2; i++) letting_go(i == 1), letting_go_behind(i == 1);
         reopening();
         kioskbasil_left ended = {.ended = true};

@@ -1,10 +1,10 @@
 /* kioskbasil.h: the broadcast bus of Kioskbasil for C and C++.
  *
  * A bus puts the messages of up to 64 senders into one order, which up to 64 receivers hear, each
- * all of it. No call waits or starts a thread. Only kioskbasil_open, kioskbasil_open_ring and
- * kioskbasil_open_after take memory. A call that is to wait is a loop of the caller's:
- * examples/c/waiting.h, in a release kioskbasil_waiting.h, has the usual ones. There each bus has a
- * bell, by which threads sleep and event loops are woken.
+ * all of it. No call waits or starts a thread. Only kioskbasil_open, kioskbasil_open_ring,
+ * kioskbasil_open_after and kioskbasil_fork take memory. A call that is to wait is a loop of the
+ * caller's: examples/c/waiting.h, in a release kioskbasil_waiting.h, has the usual ones. There each
+ * bus has a bell, by which threads sleep and event loops are woken.
  *
  * STOPS. The election of the next sender is wait-free: each takes a stated number of its own turns.
  * The append is not, since the sender that is elected holds the page as one holds a lock: if its
@@ -31,10 +31,10 @@
  *
  * HANDLES. A kioskbasil_sender or kioskbasil_receiver is the caller's. It starts as
  * KIOSKBASIL_NONE, which is all zeros, and kioskbasil_open, kioskbasil_open_ring or
- * kioskbasil_open_after fills it. It is given up by kioskbasil_free_.., which leaves it empty. A
- * call of an empty handle answers KIOSKBASIL_EMPTY_HANDLE and changes nothing, but for
- * kioskbasil_end; giving up an empty handle is allowed and does nothing. A call changes no handle
- * but those that it is given.
+ * kioskbasil_open_after fills it, or kioskbasil_fork one of a receiver. It is given up by
+ * kioskbasil_free_.., which leaves it empty. A call of an empty handle answers
+ * KIOSKBASIL_EMPTY_HANDLE and changes nothing, but for kioskbasil_end; giving up an empty handle is
+ * allowed and does nothing. A call changes no handle but those that it is given.
  *
  * TWO HANDLES. kioskbasil_tell, kioskbasil_meet and kioskbasil_senders_page want handles of one
  * bus, and answer KIOSKBASIL_OTHER_BUS for those of two. This header sees it by where their buses
@@ -66,7 +66,7 @@
  *     meanwhile;
  *   - malloc, realloc and free are those of the C library, or as good.
  *
- * ROOM FOR MORE. Answers above KIOSKBASIL_LEAVE, refusals above KIOSKBASIL_NEVER_FITS, further
+ * ROOM FOR MORE. Answers above KIOSKBASIL_LEAVE, refusals above KIOSKBASIL_USED_HANDLE, further
  * calls, and further fields at the ends of structs may come. So a program is compiled with the
  * header that its archive came with, and anew where it was compiled with an older one: this header
  * has three such fields, `ring`, `passed` and `floor`. So start each struct as zeros (`= {0}`).
@@ -139,7 +139,7 @@ enum kioskbasil_code {
   KIOSKBASIL_BAD_ROUNDS = 34,     /* open: not 1 to 8 rounds */
   KIOSKBASIL_BAD_ROWS = 35,       /* open: not 1 to 256 rows; used again, not 2 to 8 */
   KIOSKBASIL_BAD_LOG_WORDS = 36,  /* open: not 16 to 65,536 words */
-  KIOSKBASIL_NO_MEMORY = 37,      /* open: memory was refused */
+  KIOSKBASIL_NO_MEMORY = 37,      /* open, fork: memory was refused */
   KIOSKBASIL_PUT_CLOSED = 38,     /* put, carry: a close or a leave was accepted, or the order is
                                      known to have ended */
   KIOSKBASIL_PUT_BUSY = 39,       /* put, carry: the batch is on its way; carry: the sender that is
@@ -161,7 +161,10 @@ enum kioskbasil_code {
   KIOSKBASIL_OTHER_BUS = 51,      /* tell, meet, senders_page: the handles are of two buses */
   KIOSKBASIL_UNANSWERED = 52,     /* senders_page: a sender was not answered CLOSED or LEFT yet, or
                                      the handles are not those of all senders in their order */
-  KIOSKBASIL_NEVER_FITS = 53      /* has_room, try_send: the batch is longer than the log */
+  KIOSKBASIL_NEVER_FITS = 53,     /* has_room, try_send: the batch is longer than the log */
+  KIOSKBASIL_NO_SEAT = 54,        /* fork: of a ring, no number above the receiver's own is free by
+                                     now */
+  KIOSKBASIL_USED_HANDLE = 55     /* fork: the handle that is to be filled is not empty */
 };
 
 /* A code of 32 or more says that nothing was done, but of two calls. After IN_USE and PAGE_OUT of
@@ -287,6 +290,7 @@ uint32_t bus_c_receiver_bus(kioskbasil_receiver *receiver, const uint8_t **place
 uint32_t bus_c_tell(kioskbasil_receiver *receiver, kioskbasil_sender *sender, bool of_one_bus);
 uint32_t bus_c_meet(kioskbasil_receiver *receiver, kioskbasil_receiver *other, bool of_one_bus,
                     int32_t *order);
+uint32_t bus_c_fork(kioskbasil_receiver *receiver, kioskbasil_receiver *joined);
 void bus_c_free_receiver(kioskbasil_receiver *receiver);
 uint32_t bus_c_end(kioskbasil_receiver *receiver, uint64_t *log, size_t room,
                    kioskbasil_left *left);
@@ -606,15 +610,37 @@ static inline uint32_t kioskbasil_meet(kioskbasil_receiver *receiver, kioskbasil
   return bus_c_meet(receiver, other, hears == theirs, order ? order : &own);
 }
 
-/* Gives the handle up; it is empty then. Of a ring the receiver leaves for good, by one store: no
- * sender waits for it any more. */
+/* Fills `joined`, which is empty, with another receiver of the same bus, which goes on from where
+ * `receiver` stands: it hears just what `receiver` will hear. Both are of one thread during the
+ * call; then each goes where it likes.
+ * Of a ring it has the lowest number above that of `receiver` that is free, as one is whose
+ * receiver has left. Each is tried by one step, up to the first that is free. So a program keeps
+ * numbers for later: it opens a ring with more receivers than it needs, and gives the last ones up
+ * at the start. Of another bus there is always one more.
+ * KIOSKBASIL_OK; EMPTY_HANDLE; USED_HANDLE where `joined` is not empty; NO_SEAT where no such
+ * number was free, for now; NO_MEMORY, and then the number is free again. Unless it is OK `joined`
+ * is as it was, and `receiver` hears on as before. */
+static inline uint32_t kioskbasil_fork(kioskbasil_receiver *receiver,
+                                       kioskbasil_receiver *joined) {
+  if (!receiver || !joined) return KIOSKBASIL_NULL;
+  if (receiver == joined) {
+    kioskbasil_receiver_shown shown;
+    uint32_t code = bus_c_receiver(receiver, &shown);
+    return code == KIOSKBASIL_OK ? KIOSKBASIL_USED_HANDLE : code;
+  }
+  return bus_c_fork(receiver, joined);
+}
+
+/* Gives the handle up; it is empty then. Of a ring the receiver leaves, by one store: no sender
+ * waits for it any more, and its number is free for kioskbasil_fork. */
 static inline void kioskbasil_free_receiver(kioskbasil_receiver *receiver) {
   if (receiver) bus_c_free_receiver(receiver);
 }
 
 /* Ends the bus. Each sender takes the turns of kioskbasil_finish. Then it gives up all these
- * handles, which have to be all that are left of one bus, and ends the bus by the first receiver:
- * all handles are empty then, whatever the answer but NULL, which changes nothing.
+ * handles, which have to be all that are left of one bus, those of kioskbasil_fork too, and ends
+ * the bus by the first receiver: all handles are empty then, whatever the answer but NULL, which
+ * changes nothing.
  * KIOSKBASIL_OK: the first words of the log stand in `log`, as many as it has room for (`log` may
  * be NULL where `room` is 0; docs/FORMATS.md says what they are), and the rest in *left. Of a ring
  * they are the words from left->floor on, which is not past what the first receiver has passed, and
@@ -677,6 +703,8 @@ static inline const char *kioskbasil_text(uint32_t code) {
   case KIOSKBASIL_OTHER_BUS: return "the handles are of two buses";
   case KIOSKBASIL_UNANSWERED: return "a sender was not answered that the order has ended";
   case KIOSKBASIL_NEVER_FITS: return "the batch is longer than the log";
+  case KIOSKBASIL_NO_SEAT: return "no number above the receiver's own is free";
+  case KIOSKBASIL_USED_HANDLE: return "the handle is not empty";
   default: return "no code of this version";
   }
 }

@@ -1,2 +1,3 @@
+pub mod Forked
 pub mod Held
 pub mod Opened

@@ -1,20 +1,22 @@
 //! The calls of a receiver. An empty handle stays empty, and nothing else is changed.
 
 ghost use Rattle.std.specs.Prelude.{◌≡◌, true, None, IfSome, IfNone, IsSomeAnd};
+ghost use Rattle.bus_c.specs.Forked.{ForkAnswered, IsHeld};
 ghost use Rattle.bus_pageslot.specs.Seats.{table_of};
 ghost use Rattle.bus_embed.specs.declared.codes.TheConstants.{OK as done};
 ghost use Rattle.bus_embed.specs.declared.codes.TheConstants.{EMPTY_HANDLE as no_handle};
+ghost use Rattle.bus_embed.specs.declared.codes.TheConstants.{USED_HANDLE as used_handle};
 ghost use Rattle.bus_embed.specs.Calls.{HeardOnce, HearsInto, ShowsReceiver};
 ghost use Rattle.bus_embed.specs.Calls.{TellAnswered, MeetAnswered};
 ghost use Rattle.bus_embed.specs.Ends.{EndAnswered};
 
 use crate::receiver::CReceiver;
-use crate::seats::ReceiverSeat;
+use crate::seats::{ReceiverSeat, seat_receiver};
 use crate::sender::CSender;
-use bus_embed::codes::{EMPTY_HANDLE, OK};
+use bus_embed::codes::{EMPTY_HANDLE, NO_MEMORY, OK, USED_HANDLE};
 use bus_embed::{
-    HeardAnswer, HeardItem, Left, ReceiverShown, end_bus, hear_items, hear_once, receivers_meet,
-    show_receiver, tell_receiver,
+    HeardAnswer, HeardItem, Left, ReceiverHandle, ReceiverShown, ThreeWord, end_bus, fork_receiver,
+    hear_items, hear_once, receivers_meet, show_receiver, tell_receiver,
 };
 use std::alloc::Global;
 
@@ -180,6 +182,49 @@ pub extern "C" fn bus_c_meet(
     };
     receiver.hold(seat);
     code
+}
+
+/// Another receiver of the same bus, which `joined` holds then. Where it has no memory the new one
+/// is dropped again, so it leaves.
+#[unsafe(no_mangle)]
+pub extern "C" fn bus_c_fork(alloc: Global, receiver: &mut CReceiver, joined: &mut CReceiver) -> u32
+    ensures none { IfNone receiver.old.held ((result ≡ no_handle) × (receiver.new.held ≡ None)
+        × (joined.new.held ≡ joined.old.held)) }
+    ensures used { IfSome receiver.old.held (λ _. IfSome joined.old.held (λ _.
+        (result ≡ used_handle) × (receiver.new.held ≡ receiver.old.held)
+        × (joined.new.held ≡ joined.old.held))) }
+    ensures forks { IfSome receiver.old.held (λ old. IfNone joined.old.held (
+        IsSomeAnd receiver.new.held (λ new. (new.handle.bus ≡ old.handle.bus)
+        × ForkAnswered old.handle result joined.new.held new.handle))) }
+{
+    let Some(mut seat) = receiver.take(alloc) else {
+        return EMPTY_HANDLE;
+    };
+    let code = match joined.take(alloc) {
+        Some(used) => {
+            joined.hold(used);
+            USED_HANDLE
+        }
+        None => match fork_receiver(&mut seat.handle) {
+            Ok(made) => hold_new(alloc, joined, made),
+            Err(code) => code,
+        },
+    };
+    receiver.hold(seat);
+    code
+}
+
+/// Puts a receiver into a handle: OK, or NO_MEMORY, and then the handle is as it was.
+fn hold_new(alloc: Global, joined: &mut CReceiver, made: ReceiverHandle<ThreeWord>) -> u32
+    ensures { IsHeld made result joined.old.held joined.new.held }
+{
+    match Box::new(alloc, seat_receiver(made)) {
+        Ok(seat) => {
+            joined.hold(seat);
+            OK
+        }
+        Err(_) => NO_MEMORY,
+    }
 }
 
 /// Gives the handle up: it is empty then. Of a ring the receiver leaves for good, since its handle

@@ -27,8 +27,10 @@ use Rattle.bus_pageslot.specs.Seats.{SenderSeat, TookAndTold, table_of, first_nu
 use Rattle.bus_pageslot.specs.Seats.{actions_of, stored_of}
 use Rattle.bus_pageslot.specs.Sendings.{waiting_of, Carries, CarryRefused}
 use Rattle.bus_pageslot.specs.Turns.{Tellings, tells_with, TakesUpTo}
+use Rattle.bus_receiver.specs.Forking.{HasForked, FindsNoSeat}
 use Rattle.bus_receiver.specs.HearingRuns.{item_in}
 use Rattle.bus_receiver.specs.Listening.{IsTold, HaveMet}
+use Rattle.bus_handles.specs.Handles.{SeatOfBus}
 use Rattle.bus_embed.specs.declared.codes.TheConstants as code
 use Rattle.bus_embed.specs.declared.answers.TurnAnswer.{TurnAnswer}
 use Rattle.bus_embed.specs.declared.answers.HeardItem.{HeardItem}
@@ -194,6 +196,19 @@ pub record ShowsReceiver (m : Sat Held) (shown : ReceiverShown) : Type 0 where
   pub passed : shown.passed ≡ (receiver_view_in m.0).passed
   -- 0 of a bus that is no ring
   pub never : (table_layout_in m.0).passers ≡ 0 → shown.passed ≡ 0
+
+-- Why it made no other one: NO_SEAT, as each number of its ring above its own was found taken; or
+-- NO_MEMORY, and then nothing has changed.
+abbrev pub IsForkFault : SeatOfBus Held → SeatOfBus Held → ℕ → Type 0
+IsForkFault old new fault = ((fault ≡ code.NO_SEAT) × FindsNoSeat old.me new.me)
+    ⊎ ((fault ≡ code.NO_MEMORY) × (new ≡ old))
+
+-- it made another one of this bus, or came to this fault
+pub record Forks (old : SeatOfBus Held) (given : Result (SeatOfBus Held) ℕ) (new : SeatOfBus Held) :
+    Type 0 where
+  pub bus : IfOk given (λ made. made.bus ≡ old.bus)
+  pub made : IfOk given (λ made. HasForked old.me made.me new.me)
+  pub fault : IfErr given (IsForkFault old new)
 
 -- ---- two handles, of one bus or not
 -- a receiver was told by a sender, which stayed as it was

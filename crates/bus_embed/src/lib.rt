@@ -20,7 +20,8 @@ pub use buses::{
 };
 pub use finishing::finish_sender;
 pub use receivers::{
-    ReceiverShown, hear_items, hear_once, receivers_meet, show_receiver, tell_receiver,
+    ReceiverShown, fork_receiver, hear_items, hear_once, receivers_meet, show_receiver,
+    tell_receiver,
 };
 pub use senders::{
     SenderShown, carry_messages, close_sender, leave_sender, look_for_room, put_message,

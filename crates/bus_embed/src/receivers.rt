@@ -4,11 +4,11 @@ ghost use Rattle.std.specs.Prelude.{◌≡◌, true};
 ghost use Rattle.bus_pageslot.specs.Seats.{table_of};
 ghost use Rattle.bus_embed.specs.Answers.{order_number};
 ghost use Rattle.bus_embed.specs.Calls.{HeardOnce, HearsInto, ShowsReceiver};
-ghost use Rattle.bus_embed.specs.Calls.{TellAnswered, MeetAnswered};
+ghost use Rattle.bus_embed.specs.Calls.{TellAnswered, MeetAnswered, Forks};
 
 use crate::answers::{HeardAnswer, HeardItem, heard_told};
 use crate::codes;
-use bus_handles::{Item, ItemTurn, ReceiverHandle, SenderHandle, ThreeWord};
+use bus_handles::{ForkFault, Item, ItemTurn, ReceiverHandle, SenderHandle, ThreeWord};
 use std::cmp::Ordering;
 
 /// What a receiver shows, at no step.
@@ -120,6 +120,21 @@ pub fn receivers_meet(
     }
     *order = compared(receiver.meet(other));
     codes::OK
+}
+
+/// Another receiver of the same bus, as `ReceiverHandle::fork`; or the code of the fault, which is
+/// NO_SEAT or NO_MEMORY.
+pub fn fork_receiver(
+    receiver: &mut ReceiverHandle<ThreeWord>,
+) -> Result<ReceiverHandle<ThreeWord>, u32>
+    ensures bus { receiver.new.bus ≡ receiver.old.bus }
+    ensures forks { Forks receiver.old result receiver.new }
+{
+    match receiver.fork() {
+        Ok(joined) => Ok(joined),
+        Err(ForkFault::NoSeat) => Err(codes::NO_SEAT),
+        Err(ForkFault::NoMemory) => Err(codes::NO_MEMORY),
+    }
 }
 
 /// Below 0 where it is less, 0 where it is equal, and above 0 where it is greater.

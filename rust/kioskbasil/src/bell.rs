@@ -1,10 +1,11 @@
 //! The bell of a bus, for which threads and tasks wait.
 
+use crate::{MOST_RECEIVERS, MOST_SENDERS};
 use std::any::Any;
 use std::collections::BTreeMap;
 use std::mem;
 use std::panic::{self, AssertUnwindSafe};
-use std::sync::atomic::{AtomicBool, Ordering};
+use std::sync::atomic::{AtomicBool, AtomicUsize, Ordering};
 use std::sync::{Arc, Mutex, MutexGuard, PoisonError};
 use std::task::{Wake, Waker};
 use std::thread::{self, Thread};
@@ -21,6 +22,8 @@ struct Listeners {
     are_there: AtomicBool,
     /// Whom the next ring wakes, by the place of its handle.
     wakers: Mutex<BTreeMap<usize, Waker>>,
+    /// How many places were given to handles that were not there at the opening.
+    joined: AtomicUsize,
 }
 
 impl Bell {
@@ -35,6 +38,11 @@ impl Bell {
     /// As `ring`, for drops: a waker's panic ends here, since another panic may drop the handle.
     pub(crate) fn ring_in_drop(&self) {
         quietly(|| self.ring());
+    }
+
+    /// A place for a handle that joins, which no other has.
+    pub(crate) fn new_place(&self) -> usize {
+        MOST_SENDERS + MOST_RECEIVERS + self.0.joined.fetch_add(1, Ordering::Relaxed)
     }
 
     /// The next ring wakes this waker, for the handle of this place. Whoever listens looks at the

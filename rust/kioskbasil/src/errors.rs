@@ -93,6 +93,17 @@ faults! {
 }
 
 faults! {
+    /// Why no receiver was made; nothing has changed.
+    ForkError {
+        /// Memory was refused.
+        NoMemory = 37: "memory was refused",
+        /// Of a ring: each number above the receiver's own is taken. That is for now, as another
+        /// receiver may be dropped.
+        NoSeat = 54: "no number above the receiver's own is free",
+    }
+}
+
+faults! {
     /// Why senders tell no page of a sitting whose order has ended.
     PageError {
         /// None of them has closed the order.

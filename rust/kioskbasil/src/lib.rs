@@ -22,6 +22,8 @@
 //! longer than the log is `Full` for good, and its sender then neither sends, closes nor leaves:
 //! give a ring 129 words or more, or count the words of a batch before each put.
 //!
+//! A receiver joins while the bus runs by `Receiver::fork` of another.
+//!
 //! Dropping senders ends no order: `Sender::end_order` does, or the last drop after
 //! `Sender::end_with_senders`.
 //!
@@ -70,8 +72,8 @@ mod waiting;
 
 pub use bell::Bell;
 pub use errors::{
-    CloseError, EndError, NeverFits, NumbersError, OpenError, OtherBus, PageError, PutError,
-    SendError, TrySendError, Unsent,
+    CloseError, EndError, ForkError, NeverFits, NumbersError, OpenError, OtherBus, PageError,
+    PutError, SendError, TrySendError, Unsent,
 };
 pub use long::{LongItem, NextLong, NotLong, PutLongError, MOST_LONG_BYTES};
 pub use receivers::{Body, Frame, Heard, Item, Next, NextFrame, NextItems, Receiver};

@@ -166,6 +166,7 @@ extern "C" {
         of_one_bus: bool,
         order: *mut i32,
     ) -> u32;
+    pub fn bus_c_fork(receiver: *mut RawReceiver, joined: *mut RawReceiver) -> u32;
     pub fn bus_c_free_receiver(receiver: *mut RawReceiver);
     pub fn bus_c_end(
         receiver: *mut RawReceiver,

@@ -1,5 +1,6 @@
 //! Receivers.
 
+mod forks;
 mod frames;
 mod long;
 
