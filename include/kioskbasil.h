@@ -162,7 +162,7 @@ enum kioskbasil_code {
   KIOSKBASIL_UNANSWERED = 52,     /* senders_page: a sender was not answered CLOSED or LEFT yet, or
                                      the handles are not those of all senders in their order */
   KIOSKBASIL_NEVER_FITS = 53,     /* has_room, try_send: the batch is longer than the log */
-  KIOSKBASIL_NO_SEAT = 54,        /* fork: of a ring, no number above the receiver's own is free by
+  KIOSKBASIL_NO_SEAT = 54,        /* fork: of a ring, each number above the receiver's own was taken by
                                      now */
   KIOSKBASIL_USED_HANDLE = 55     /* fork: the handle that is to be filled is not empty */
 };
@@ -703,7 +703,7 @@ static inline const char *kioskbasil_text(uint32_t code) {
   case KIOSKBASIL_OTHER_BUS: return "the handles are of two buses";
   case KIOSKBASIL_UNANSWERED: return "a sender was not answered that the order has ended";
   case KIOSKBASIL_NEVER_FITS: return "the batch is longer than the log";
-  case KIOSKBASIL_NO_SEAT: return "no number above the receiver's own is free";
+  case KIOSKBASIL_NO_SEAT: return "each number above the receiver's own was taken";
   case KIOSKBASIL_USED_HANDLE: return "the handle is not empty";
   default: return "no code of this version";
   }

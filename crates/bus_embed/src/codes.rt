@@ -80,7 +80,7 @@ pub const OTHER_BUS: u32 = 51;
 pub const UNANSWERED: u32 = 52;
 /// No room, ever: the batch is longer than the log.
 pub const NEVER_FITS: u32 = 53;
-/// No fork: each number of the ring above the receiver's own is taken.
+/// No fork: each number of the ring above the receiver's own was taken when it was tried.
 pub const NO_SEAT: u32 = 54;
 /// No fork: the handle that is to hold the new receiver holds one.
 pub const USED_HANDLE: u32 = 55;

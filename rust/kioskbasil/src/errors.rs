@@ -97,9 +97,9 @@ faults! {
     ForkError {
         /// Memory was refused.
         NoMemory = 37: "memory was refused",
-        /// Of a ring: each number above the receiver's own is taken. That is for now, as another
+        /// Of a ring: each number above the receiver's own was taken when it was tried. Another
         /// receiver may be dropped.
-        NoSeat = 54: "no number above the receiver's own is free",
+        NoSeat = 54: "each number above the receiver's own was taken",
     }
 }
 

@@ -240,7 +240,7 @@ fn forks_of_a_bus_that_is_no_ring() {
 fn faults_say_why() {
     assert_eq!(
         ForkError::NoSeat.to_string(),
-        "no number above the receiver's own is free"
+        "each number above the receiver's own was taken"
     );
     assert_eq!(ForkError::NoMemory.to_string(), "memory was refused");
 }
