@@ -162,8 +162,8 @@ enum kioskbasil_code {
   KIOSKBASIL_UNANSWERED = 52,     /* senders_page: a sender was not answered CLOSED or LEFT yet, or
                                      the handles are not those of all senders in their order */
   KIOSKBASIL_NEVER_FITS = 53,     /* has_room, try_send: the batch is longer than the log */
-  KIOSKBASIL_NO_SEAT = 54,        /* fork: of a ring, each number above the receiver's own was taken by
-                                     now */
+  KIOSKBASIL_NO_SEAT = 54,        /* fork: of a ring, each number above the receiver's own was
+                                     taken when it was tried */
   KIOSKBASIL_USED_HANDLE = 55     /* fork: the handle that is to be filled is not empty */
 };
 
