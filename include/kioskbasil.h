@@ -626,7 +626,8 @@ static inline uint32_t kioskbasil_fork(kioskbasil_receiver *receiver,
   if (receiver == joined) {
     kioskbasil_receiver_shown shown;
     uint32_t code = bus_c_receiver(receiver, &shown);
-    return code == KIOSKBASIL_OK ? KIOSKBASIL_USED_HANDLE : code;
+    if (code == KIOSKBASIL_OK) code = KIOSKBASIL_USED_HANDLE;
+    return code;
   }
   return bus_c_fork(receiver, joined);
 }
