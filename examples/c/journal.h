@@ -55,8 +55,8 @@ enum {
                               page and repair also: it looks torn, and hides a whole record */
     JOURNAL_CHANGED = 124, /* repair: the file has other bytes than were read, since somebody
                               writes it */
-    JOURNAL_GAP = 125      /* page: its first numbers are not those of the page before, so a file
-                              is missing between, or two programs ran at once */
+    JOURNAL_GAP = 125      /* page: its first numbers are not those of the page before: a file
+                              is missing or comes twice, or two programs ran at once */
 };
 
 enum {

@@ -85,8 +85,8 @@ pub enum GoOnError {
         /// The byte of the file at which that begins.
         at: u64,
     },
-    /// Its first numbers are not those of the page before, so a file is missing between, or two
-    /// programs ran at once.
+    /// Its first numbers are not those of the page before: a file is missing or comes twice, or
+    /// two programs ran at once.
     Gap,
     /// A next number is 2^48 - 65,536 or more.
     Numbers,

@@ -299,8 +299,8 @@ impl Recovered {
     ///
     /// The first that holds: `GoOnError::Damaged` where it is damaged, so that whole frames may be
     /// missing: who knows their numbers goes on by `Page::from_numbers`. `Gap` where the header's
-    /// first numbers are others than those of `before`: a file is missing between, or two programs
-    /// ran at once. `Numbers` where those of a sender are used up.
+    /// first numbers are others than those of `before`: a file is missing or comes twice, or two
+    /// programs ran at once. `Numbers` where those of a sender are used up.
     ///
     /// ```
     /// use kioskbasil::journal::{self, GoOnError, Header, Journal, SyncPolicy};
