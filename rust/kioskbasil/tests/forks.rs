@@ -2,11 +2,11 @@
 
 mod common;
 
-use common::{bus, in_time, ring};
+use common::{bus, in_time, ring, Count};
 use kioskbasil::{Body, Bus, EndError, ForkError, Item, Next, Receiver, Sender, Turn};
-use std::sync::atomic::{AtomicUsize, Ordering};
+use std::sync::atomic::Ordering;
 use std::sync::Arc;
-use std::task::{Context, Poll, Wake, Waker};
+use std::task::{Context, Poll, Waker};
 use std::thread;
 use std::time::Duration;
 
@@ -175,15 +175,6 @@ fn frames_of_a_fork() {
     assert_eq!(receiver.try_frame().unwrap().body, Body::End);
 }
 
-/// How often it was woken.
-struct Woken(AtomicUsize);
-
-impl Wake for Woken {
-    fn wake(self: Arc<Self>) {
-        self.0.fetch_add(1, Ordering::SeqCst);
-    }
-}
-
 /// A task that polls a receiver, and tasks that poll its forks: one message wakes each of them.
 #[test]
 fn tasks_are_woken_each() {
@@ -193,9 +184,7 @@ fn tasks_are_woken_each() {
         let joined = receivers[at].fork().unwrap();
         receivers.push(joined);
     }
-    let woken: Vec<_> = (0..4)
-        .map(|_| Arc::new(Woken(AtomicUsize::new(0))))
-        .collect();
+    let woken: Vec<Arc<Count>> = (0..4).map(|_| Arc::default()).collect();
     let wakers: Vec<Waker> = woken.iter().map(|w| Waker::from(w.clone())).collect();
     for round in 0..30 {
         for (receiver, waker) in receivers.iter_mut().zip(&wakers) {

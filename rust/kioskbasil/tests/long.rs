@@ -2,13 +2,13 @@
 
 mod common;
 
-use common::{in_time, pieces};
+use common::{in_time, pieces, Count};
 use kioskbasil::{Bus, Item, LongItem, NextLong, NotLong, PutLongError, Receiver, Sender, Shape};
 use kioskbasil::{NeverFits, PutError, Turn, MOST_LONG_BYTES};
 use std::future::Future;
-use std::sync::atomic::{AtomicBool, AtomicUsize, Ordering::SeqCst};
+use std::sync::atomic::{AtomicBool, Ordering::SeqCst};
 use std::sync::Arc;
-use std::task::{Context, Poll, Wake, Waker};
+use std::task::{Context, Poll, Waker};
 use std::thread;
 
 fn open(senders: usize, receivers: usize, log_words: u64) -> (Vec<Sender>, Vec<Receiver>) {
@@ -273,18 +273,10 @@ fn one_that_waits_is_woken_and_told_to_stop() {
     });
 }
 
-struct Count(AtomicUsize);
-
-impl Wake for Count {
-    fn wake(self: Arc<Self>) {
-        self.0.fetch_add(1, SeqCst);
-    }
-}
-
 #[test]
 fn a_task_is_woken_by_a_long_message() {
     let (mut senders, mut receivers) = open(1, 1, 4096);
-    let count = Arc::new(Count(AtomicUsize::new(0)));
+    let count = Arc::<Count>::default();
     let waker = Waker::from(count.clone());
     let mut context = Context::from_waker(&waker);
     assert!(receivers[0].poll_long(&mut context).is_pending());

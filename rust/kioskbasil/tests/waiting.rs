@@ -2,7 +2,7 @@
 
 mod common;
 
-use common::bus;
+use common::{bus, Count};
 use kioskbasil::{Bus, Item, Next, Receiver, Sender, Shape, Turn, Waiting};
 use std::future::Future;
 use std::panic::{self, AssertUnwindSafe};
@@ -248,16 +248,6 @@ fn tasks_of_several_threads_play_a_ball() {
             });
         }
     });
-}
-
-/// Counts how often it is woken.
-#[derive(Default)]
-struct Count(AtomicUsize);
-
-impl Wake for Count {
-    fn wake(self: Arc<Self>) {
-        self.0.fetch_add(1, Ordering::SeqCst);
-    }
 }
 
 #[test]

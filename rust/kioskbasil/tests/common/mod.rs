@@ -4,7 +4,9 @@
 use kioskbasil::replica::{Replica, Replicas, State};
 use kioskbasil::{Bus, Receiver, Sender, Shape};
 use std::path::PathBuf;
-use std::sync::mpsc;
+use std::sync::atomic::{AtomicUsize, Ordering};
+use std::sync::{mpsc, Arc};
+use std::task::Wake;
 use std::thread;
 use std::time::Duration;
 use std::{env, fs, process};
@@ -54,6 +56,16 @@ pub fn in_time<T: Send + 'static>(does: impl FnOnce() -> T + Send + 'static) -> 
 /// How many messages of the bus a long one of so many bytes is: pieces of 55 bytes, one at least.
 pub fn pieces(length: usize) -> u64 {
     ((length + 54) / 55).max(1) as u64
+}
+
+/// Counts how often it is woken.
+#[derive(Default)]
+pub struct Count(pub AtomicUsize);
+
+impl Wake for Count {
+    fn wake(self: Arc<Self>) {
+        self.0.fetch_add(1, Ordering::SeqCst);
+    }
 }
 
 /// A folder of one test, which goes with it.
