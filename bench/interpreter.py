@@ -54,6 +54,12 @@ MUTANTS = [
     ("process.place > process.passed", "process.place > process.passed + 2"),
     ("isOpen && s.loaded < bus.receivers.length", "isOpen && s.loaded + 1 < bus.receivers.length"),
     ("'log ' + r.place % bus.log", "'log ' + r.place"),
+    ("found === PASSED_ALL ? r.passed : found", "found === PASSED_ALL ? r.place : found"),
+    ("if (!isFree) return 'no seat';", ""),
+    ("message: r.message && {...r.message}", ""),
+    ("if (number <= r.number) return 'NotAbove';", "if (number === r.number) return 'NotAbove';"),
+    ("new Map(freePlaces(receivers, seats))", "new Map()"),
+    ("['Seats', sizes[1], 64]", "['Seats', 1, 64]"),
 ]
 
 # A sender sees tenure 0 open, falls asleep, and shows itself in it once tenure 2 is held: whoever clears a row then passes it by.
@@ -79,6 +85,9 @@ TIED_COIN = "".join([
     32 * "turn 1 1 2\nturn 1 0 2\n",
     "turn 1 0 99\nturn 0 0 99\nput 1 " + 57 * "61" + "\n",
 ])
+
+# A ring with fewer seats than receivers.
+FEW_SEATS = "ring 1 3 1 2 64 2\n"
 
 
 class Node:
@@ -106,8 +115,8 @@ def broken(script, dice):
 
 
 def batch_of(seed, count):
-    """Scripts of all kinds, behind two fixed ones; the fourth of five as it is, and the fifth broken; of the others refused lines go."""
-    dice, batch = random.Random(seed), [[LATE_PRESENCE, True], [TIED_COIN, True]]
+    """Scripts of all kinds, behind three fixed ones; the fourth of five as it is, and the fifth broken; of the others refused lines go."""
+    dice, batch = random.Random(seed), [[LATE_PRESENCE, True], [TIED_COIN, True], [FEW_SEATS, True]]
     for number in range(count - len(batch)):
         script = (shaped_script, cyclic_script, ring_script)[number % 3](dice)
         if number % 5 == 4:

@@ -20,8 +20,8 @@ struct sender {
     int own_votes, published, lost, withdrawn;
     struct page page; u64 frame[129], presence, asked, cleared, loaded, lowest;
 } S[64];
-struct receiver { u64 place, known, left, tenure, owner, number, bytes, got, count, fresh, passed; int ended, gone; unsigned char data[64]; } M[RECEIVERS + 1]; // the last hears the whole log in the end
-static u64 n, m, R, T, L, B, stage, length, *word_of_log, *published, owners[256], owner_count;
+struct receiver { u64 place, known, left, tenure, owner, number, bytes, got, count, fresh, passed; int ended, gone, taken; unsigned char data[64]; } M[RECEIVERS + 1]; // by seat; the last hears the whole log in the end
+static u64 n, m, R, T, L, B, seats, stage, length, *word_of_log, *published, owners[256], owner_count;
 static struct row *rows; static int cyclic, ringed, tells;
 static char *out; static size_t used, room;
 static void say(const char *format, u64 a, u64 b, u64 c, u64 d) {
@@ -34,13 +34,21 @@ static void say_hex(const unsigned char *bytes, u64 len) {
 }
 static void tell(const char *what) { if (tells && ringed) fprintf(stderr, "%s\n", what); }
 static u64 all_passed(u64 place) { // the least of this place and of all passed places
-    for (u64 i = 0; i < m; i++) if (M[i].passed < place) place = M[i].passed;
+    for (u64 i = 0; i < seats; i++) if (M[i].passed < place) place = M[i].passed;
     return place;
 }
 static void tell_length(u64 before) { // how often the log's last cell was passed over, and whether somebody may hear the frame
-    int alone = 1; for (u64 i = 0; i < m; i++) alone &= M[i].gone;
+    int alone = 1; for (u64 i = 0; i < seats; i++) alone &= M[i].gone;
     for (u64 i = before / L; i < length / L; i++) tell("over");
     if (alone) tell("alone");
+}
+static void tell_fork(u64 from, u64 to) { // whether it is done, where the receiver stands then, and whether a holder is among its loads of passed places
+    if (!M[to].gone) { tell("taken"); return; }
+    tell("fork");
+    if (M[to].taken) tell("again");
+    if (M[from].left) tell("midst"); else if (M[from].place > M[from].passed && !M[from].ended) tell("due");
+    if (M[from].ended) tell("ended");
+    for (u64 i = 0; i < n; i++) if (S[i].phase == HOLD && !S[i].published && S[i].loaded && S[i].loaded < seats) tell(S[i].loaded > to ? "behind" : "before");
 }
 static void start_bit(struct sender *s) { s->round = 0; s->value = s->candidate >> s->bit & 1; s->at = BRING; }
 static int fits(struct sender *s, u64 i) { return i < n && (int)(i >> (s->bit + 1)) == s->spelled; }
@@ -129,9 +137,9 @@ static int turn(u64 me, uint32_t random) { // true where it is going; else its a
         published = realloc(published, 8 * length); memcpy(published + s->page.words, s->frame, 8 * s->words);
         return 1;
     }
-    if (ringed && !s->page.ended && !s->published && s->loaded < m) { // no room by the page's floor
+    if (ringed && !s->page.ended && !s->published && s->loaded < seats) { // no room by the page's floor
         u64 passed = M[s->loaded].passed; if (passed < s->lowest) s->lowest = passed;
-        if (++s->loaded == m) s->page.floor = s->lowest;
+        if (++s->loaded == seats) s->page.floor = s->lowest;
         return 1;
     }
     if (cyclic && next >= T) { // the row of the next tenure was used T tenures before that
@@ -198,9 +206,10 @@ static int is_good(const char *line, const char *end, int shaped) { // the form 
         if (count == 7) return 0;
     }
     while (numbers + 1 < count && is_number(w[numbers + 1], 0, UINT64_MAX)) numbers++;
-    if (!shaped) return (is(w[0], "shape") || is(w[0], "cycle") || is(w[0], "ring")) && count == 6 && numbers == 5;
+    if (!shaped) return (is(w[0], "shape") || is(w[0], "cycle") || is(w[0], "ring")) && (count == 6 || (count == 7 && is(w[0], "ring"))) && numbers == count - 1;
     if (is(w[0], "put")) return count == 3 && numbers >= 1 && is_hex(w[2]);
     if (is(w[0], "close") || is(w[0], "stop") || is(w[0], "leave") || is(w[0], "gone")) return count == 2 && numbers == 1;
+    if (is(w[0], "fork")) return count == 3 && numbers == 2;
     if (is(w[0], "turn")) return count == 4 && numbers == 3 && is_number(w[2], 0, 4294967295) && is_number(w[3], 1, 10000);
     return is(w[0], "recv") && count == 3 && numbers == 2 && is_number(w[2], 1, 10000);
 }
@@ -217,13 +226,14 @@ int main(int argc, char **argv) {
         if (line == end || *line == '#') continue;
         if (!is_good(line, end, shaped)) { if (refused(passes, number, "BadLine")) goto stop; continue; }
         if (!shaped) {
-            ringed = *line == 'r'; cyclic = ringed || *line == 'c'; sscanf(line + (ringed ? 5 : 6), "%lu %lu %lu %lu %lu", &n, &m, &R, &T, &L);
+            ringed = *line == 'r'; cyclic = ringed || *line == 'c'; if (sscanf(line + (ringed ? 5 : 6), "%lu %lu %lu %lu %lu %lu", &n, &m, &R, &T, &L, &seats) < 6) seats = m;
             B = 0; while (1u << B < n && n <= 64) B++;
             const char *why = n < 1 || n > 64 ? "Senders" : m < 1 || m > RECEIVERS ? "Receivers"
                 : R < 1 || R > 8 ? "Rounds" : T < (cyclic ? 2 : 1) || T > (cyclic ? 8 : 256) ? "Rows"
-                : L < 16 || L > 65536 ? "LogWords" : 0;
-            if (why) { m = 0; if (refused(passes, number, why)) goto stop; continue; }
+                : L < 16 || L > 65536 ? "LogWords" : seats < m || seats > RECEIVERS ? "Seats" : 0;
+            if (why) { seats = 0; if (refused(passes, number, why)) goto stop; continue; }
             shaped = 1; rows = calloc(T, sizeof *rows); word_of_log = calloc(L, 8);
+            for (u64 i = 0; i < seats; i++) if (i < m) M[i].taken = 1; else { M[i].gone = 1; M[i].passed = UINT64_MAX; }
         } else if (*line == 'p') {
             s = strtoul(line + 4, &line, 10); struct sender *p = &S[s % 64]; line++; k = *line == '-' ? 0 : strlen(line) / 2;
             const char *why = p->stopped ? "Stopped" : p->closing || p->leaving || p->closed ? "Closed" : p->busy ? "Busy" : k > 56 ? "TooLong" : p->count == 16 ? "BatchFull" : 0;
@@ -243,9 +253,16 @@ int main(int argc, char **argv) {
             s = strtoul(line + 5, 0, 10);
             if (s >= n || S[s].stopped) { if (refused(passes, number, s >= n ? "NoSuchSender" : "Stopped")) goto stop; continue; }
             S[s].stopped = 1; say("stop %lu: stopped\n", s, 0, 0, 0);
+        } else if (*line == 'f') {
+            s = strtoul(line + 5, &line, 10); k = strtoul(line, 0, 10);
+            const char *why = s >= seats || k >= seats ? "NoSuchReceiver" : k <= s ? "NotAbove" : M[s].gone ? "Gone" : 0;
+            if (why) { if (refused(passes, number, why)) goto stop; continue; }
+            int free = M[k].gone; tell_fork(s, k);
+            if (free) { M[k] = M[s]; M[k].taken = 1; }
+            say(free ? "fork %lu %lu: forked\n" : "fork %lu %lu: no seat\n", s, k, 0, 0);
         } else {
             int leaves = *line == 'g'; s = strtoul(line + 5, &line, 10); k = strtoul(line, 0, 10);
-            if (s >= m || M[s].gone) { if (refused(passes, number, s >= m ? "NoSuchReceiver" : "Gone")) goto stop; continue; }
+            if (s >= seats || M[s].gone) { if (refused(passes, number, s >= seats ? "NoSuchReceiver" : "Gone")) goto stop; continue; }
             if (leaves && M[s].left) tell("within");
             if (leaves) { M[s].gone = 1; M[s].passed = UINT64_MAX; say("gone %lu: gone\n", s, 0, 0, 0); continue; }
             say("recv %lu: ", s, 0, 0, 0); M[s].fresh = used; while (k-- && recv(s)) {}
@@ -263,7 +280,7 @@ int main(int argc, char **argv) {
         else if (M[RECEIVERS].ended) { used = before; say("order end\n", 0, 0, 0, 0); } else used = before;
         if (!more) break;
     }
-    for (u64 i = 0; i < m; i++) { say("given %lu %lu", i, M[i].count, 0, 0); say(M[i].ended ? " end\n" : "\n", 0, 0, 0, 0); }
+    for (u64 i = 0; i < seats; i++) if (M[i].taken) { say("given %lu %lu", i, M[i].count, 0, 0); say(M[i].ended ? " end\n" : "\n", 0, 0, 0, 0); }
 stop:
     fwrite(out, 1, used, stdout);
     return status;

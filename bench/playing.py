@@ -22,6 +22,7 @@ function turnsShown() {
 }
 function begin_bus(sizes, kind) {
     choose('rows-kind', kind);
+    choose('size-5', '');
     sizes.forEach((size, place) => choose('size-' + place, size));
     press('new');
 }
@@ -31,7 +32,7 @@ function clickTurn(button) {
     const [kind, on] = [...button.querySelectorAll('span:not(.badge)')].map((one) => one.textContent);
     const from = view.step;
     button.click();
-    if (kind === 'stopped') return;
+    if (kind === 'stopped' || kind === 'nobody') return;
     const row = rowAt(from + 1);
     const isSame = saidKind(row) === kind.replace(/^(tails|heads)$/, 'Vote') &&
         on === (row.word === '-' ? row.answer : named(page, placeOf(row.word)));
@@ -47,9 +48,10 @@ function clickAny(random) {
         clickTurn(pick(random, turnsShown()));
     } else if (what < .9) {
         choose('whom', Math.floor(random() * page.shape.senders));
-        choose('which', Math.floor(random() * page.shape.receivers));
+        choose('which', Math.floor(random() * page.shape.seats));
+        choose('free', Math.floor(random() * page.shape.seats));
         choose('message', pick(random, ['', 'a', 'hello', 'eight or more', 'x'.repeat(57), '\\u00e4']));
-        press(pick(random, ['put', 'put', 'put', 'put', 'put', 'put', 'close', 'leave', 'stop', 'gone']));
+        press(pick(random, ['put', 'put', 'put', 'put', 'put', 'put', 'close', 'leave', 'stop', 'gone', 'fork', 'fork']));
     } else {
         go(Math.floor(random() * (total + 1)));
     }
@@ -57,8 +59,9 @@ function clickAny(random) {
 function sequence(seed) {
     const random = dice(seed);
     const kind = pick(random, ['shape', 'cycle', 'ring']);
-    begin_bus([1 + Math.floor(random() * 4), 1 + Math.floor(random() * 2), 1 + Math.floor(random() * 3),
-        2 + Math.floor(random() * 4), 64], kind);
+    const receivers = 1 + Math.floor(random() * 2);
+    begin_bus([1 + Math.floor(random() * 4), receivers, 1 + Math.floor(random() * 3), 2 + Math.floor(random() * 4), 64,
+        pick(random, ['', receivers + 1, receivers + 2])], kind);
     const [clicks, busy] = [3 + Math.floor(random() * 20), random() < .5];
     for (let s = 0; busy && s < page.shape.senders; s += 1) { choose('whom', s); choose('message', 's' + s); press('put'); }
     for (let click = 0; click < clicks; click += 1) clickAny(random);
@@ -80,8 +83,20 @@ BAD = [
     "shape 1 1 1 1 16\nput 0 " + 57 * "61" + "\n", "shape 1 1 1 1 16\n" + 17 * "put 0 -\n", "shape 1 1 1 1 16\nput 0 -\nclose 0\n",
     "shape 1 1 1 1 16\nput 0 -\nturn 0 0 1\nput 0 -\n", "shape 1 1 1 1 16\nstop 0\nturn 0 0 1\n", "shape 1 1 1 1 16\nstop 0\nstop 0\n",
     "shape 1 1 1 1 16\nleave 0\nput 0 -\n", "shape 1 1 1 1 16\nput 18446744073709551616 -\n", "shape 1 1 1 1 16\nconstructor 0\n",
+    "ring 1 3 1 2 16 2\n", "ring 1 1 1 2 16 65\n", "ring 1 1 1 2 15 0\n", "ring 1 1 1 2 16 2 2\n", "shape 1 1 1 2 16 1\n", "fork 0 1\n",
+    "ring 1 1 1 2 16 3\nrecv 1 1\n", "ring 1 1 1 2 16 3\ngone 2\n", "ring 1 1 1 2 16 3\nrecv 3 1\n", "ring 1 1 1 2 16 3\nfork 0 3\n",
+    "ring 1 1 1 2 16 3\nfork 1 1\n", "ring 1 1 1 2 16 3\nfork 1 2\n", "ring 1 1 1 2 16 3\nfork 0 1 2\n", "ring 1 1 1 2 16 3\nfork 0\n",
+    "shape 1 2 1 1 16\nfork 0 1\ngone 1\nfork 0 1\n", "shape 1 2 1 1 16\ngone 0\nfork 0 1\n",
     "shape 1 1 1 1 16\nput 0 -", "shape 1 1 1 1 16\n# </script><b>\u00e4\nput 0 3c2f7363726970743e\nturn 0 0 99\n", "shape 1 1 1 1 16\nturn 0 0\tx\n",
 ]
+
+
+def free_places(script):
+    """The passed places of a ring's seats that nobody has at first, as they begin."""
+    first = next((line.split(" ") for line in script.split("\n") if line and not line.startswith("#")), [""])
+    if first[0] != "ring" or len(first) != 7 or not all(word.isdigit() for word in first[1:]):
+        return {}
+    return {f"passed {seat}": str(2**64 - 1) for seat in range(int(first[2]), min(64, int(first[6])))}
 
 
 class Play:
@@ -147,8 +162,12 @@ class Play:
             return f"choose('times', {part[3]}); {vote}; clickTurn(turnsShown().filter((one) => one.dataset.who === 'sender {part[1]}')[{part[2]} % 2] || turnsShown().find((one) => one.dataset.who === 'sender {part[1]}'))"
         if part[0] == "recv":
             return f"choose('times', {part[2]}); clickTurn(document.querySelector(\"#turns [data-who='receiver {part[1]}']\"))"
-        message = f"choose('message', {json.dumps(bytes.fromhex(part[2].replace('-', '')).decode())}); " if part[0] == "put" else ""
-        return f"choose('{'which' if part[0] == 'gone' else 'whom'}', {part[1]}); {message}press('{part[0]}')"
+        more = ""
+        if part[0] == "put":
+            more = f"choose('message', {json.dumps(bytes.fromhex(part[2].replace('-', '')).decode())}); "
+        if part[0] == "fork":
+            more = f"choose('free', {part[2]}); "
+        return f"choose('{'which' if part[0] in ('gone', 'fork') else 'whom'}', {part[1]}); {more}press('{part[0]}')"
 
     # ---- Sequences of clicks at random.
     def sequences(self, tabs, count):
@@ -172,7 +191,7 @@ class Play:
     def sequence(self, tab, seed):
         made = tab.do(f"sequence({seed})")
         self.same(f"sequence {seed}", made["script"], made["rows"])
-        words = {}
+        words = free_places(made["script"])
         for line in made["rows"].split("\n")[1 : made["step"] + 1]:
             part = line.split("\t")
             if part[5] != "-":
@@ -256,7 +275,8 @@ class Play:
                 turn = True
                 tab.do("document.activeElement.click(); 0")
         missed = {"sender 0", "sender 1", "receiver 0", "receiver 1", "times", "votes", "opening", "anew", "whom", "message", "put",
-                  "close", "leave", "stop", "rows-kind", "size-0", "size-4", "new", "text", "copy", "read", "link"} - reached
+                  "close", "leave", "stop", "gone", "fork", "free", "rows-kind", "size-0", "size-5", "new", "text", "copy", "read",
+                  "link"} - reached
         if missed:
             self.fail(f"Tab does not go to {sorted(missed)}")
         tab.do("at('place').focus; document.activeElement.blur(); 0")

@@ -7,8 +7,8 @@
 mod replica_lives;
 
 use kioskbasil::{
-    Bus, Ended, Heard, Item, NeverFits, Next, NextItems, PutError, Receiver, Sender, Shape,
-    TrySendError, Turn, Waiting, MOST_RECEIVERS, MOST_SENDERS,
+    Bus, Ended, ForkError, Heard, Item, NeverFits, Next, NextItems, PutError, Receiver, Sender,
+    Shape, TrySendError, Turn, Waiting, MOST_RECEIVERS, MOST_SENDERS,
 };
 use std::collections::VecDeque;
 use std::future::Future;
@@ -17,12 +17,16 @@ use std::pin::Pin;
 use std::sync::atomic::{AtomicBool, AtomicU64, AtomicUsize, Ordering::SeqCst};
 use std::sync::{Arc, Condvar, Mutex, MutexGuard, PoisonError};
 use std::task::{Context, Poll, Wake, Waker};
-use std::thread;
+use std::thread::{self, Scope};
 use std::time::{Duration, Instant};
-use std::{env, process};
+use std::{env, mem, process};
 
 /// A life takes so long at most.
 const LONGEST: Duration = Duration::from_secs(60);
+
+/// How many receivers forked, and how often a ring had no number for one.
+static FORKS: AtomicU64 = AtomicU64::new(0);
+static NO_SEATS: AtomicU64 = AtomicU64::new(0);
 
 // ---- what is drawn
 
@@ -119,7 +123,8 @@ impl Order {
     }
 }
 
-/// A receiver, and what it has heard.
+/// A receiver, and what it and its makers before it have heard. `is_fork` says that it is one more
+/// than a life began with, so it may go at any time.
 struct Ear {
     receiver: Receiver,
     order: Arc<Order>,
@@ -127,6 +132,7 @@ struct Ear {
     next: Vec<u64>,
     left: [bool; MOST_SENDERS],
     is_done: bool,
+    is_fork: bool,
 }
 
 impl Ear {
@@ -138,7 +144,36 @@ impl Ear {
             next: bases.to_vec(),
             left: [false; MOST_SENDERS],
             is_done: false,
+            is_fork: false,
         }
+    }
+
+    /// A fork of it, which has heard what this one has. None where a ring has no number for it.
+    fn fork(&mut self) -> Option<Ear> {
+        match self.receiver.fork() {
+            Ok(receiver) => {
+                FORKS.fetch_add(1, SeqCst);
+                Some(Ear {
+                    receiver,
+                    order: self.order.clone(),
+                    next: self.next.clone(),
+                    is_fork: true,
+                    ..*self
+                })
+            }
+            Err(ForkError::NoSeat) => {
+                NO_SEATS.fetch_add(1, SeqCst);
+                None
+            }
+            Err(fault) => panic!("a fork: {fault}"),
+        }
+    }
+
+    /// A fork of it goes on in its place, and it is dropped.
+    fn replace(&mut self, fork: Ear, dice: &mut Dice) {
+        let is_fork = self.is_fork;
+        let maker = mem::replace(self, Ear { is_fork, ..fork });
+        drop_somehow(maker.receiver, dice);
     }
 
     /// An item is the next one of its sender and of the order, and has the bytes that were put.
@@ -158,6 +193,20 @@ impl Ear {
 
     fn note_all(&mut self, items: &[Item]) {
         items.iter().for_each(|item| self.note(item));
+    }
+}
+
+/// How many receivers more a ring of this shape is opened with, so that some may fork.
+fn spares(dice: &mut Dice, shape: &Shape) -> usize {
+    let most = if dice.one_in(10) { MOST_RECEIVERS } else { 5 };
+    let spares = dice.below(most as u64) as usize;
+    spares.min(MOST_RECEIVERS - shape.receivers)
+}
+
+/// Drops so many receivers: their numbers are free from now on.
+fn drop_spares(receivers: &mut Vec<Receiver>, many: usize, dice: &mut Dice) {
+    for _ in 0..many {
+        receivers.remove(dice.below(receivers.len() as u64) as usize);
     }
 }
 
@@ -201,6 +250,9 @@ struct Shared {
     /// Of senders and of receivers that are not dropped.
     senders: AtomicUsize,
     receivers: AtomicUsize,
+    /// One look in so many tries to fork a receiver, as long as so many tries are left.
+    forks: u64,
+    tries: AtomicUsize,
 }
 
 /// One of several may go, so that one at least stays.
@@ -466,18 +518,27 @@ fn drop_somehow<T: Send + 'static>(handle: T, dice: &mut Dice) {
     }
 }
 
+/// What threads give back that have ended.
+type Kept = Mutex<(Vec<Mouth>, Vec<Ear>)>;
+
 /// A thread, with some senders and some receivers of a bus.
-struct Worker<'a> {
-    shared: &'a Shared,
+struct Worker<'scope, 'env> {
+    scope: &'scope Scope<'scope, 'env>,
+    shared: &'env Shared,
+    kept: &'env Kept,
     mouths: Vec<Mouth>,
     ears: Vec<Ear>,
     dice: Dice,
     drops: bool,
 }
 
-impl Worker<'_> {
+impl Worker<'_, '_> {
+    fn start(self) {
+        self.scope.spawn(move || self.work());
+    }
+
     /// Sends and hears until all is sent and heard.
-    fn work(mut self) -> (Vec<Mouth>, Vec<Ear>) {
+    fn work(mut self) {
         while self.mouths.iter().any(|it| !it.is_done) || self.ears.iter().any(|it| !it.is_done) {
             self.send();
             self.hear();
@@ -488,7 +549,9 @@ impl Worker<'_> {
                 thread::yield_now();
             }
         }
-        (self.mouths, self.ears)
+        let mut kept = locked(self.kept);
+        kept.0.append(&mut self.mouths);
+        kept.1.append(&mut self.ears);
     }
 
     fn send(&mut self) {
@@ -529,10 +592,43 @@ impl Worker<'_> {
         for ear in self.ears.iter_mut().filter(|ear| !ear.is_done) {
             ear.act(&mut self.dice, is_alone, may_sleep);
         }
-        let goes = self.drops && !self.ears.is_empty() && self.dice.one_in(3000);
-        if goes && may_go(&self.shared.receivers, 1) {
-            let at = self.dice.below(self.ears.len() as u64) as usize;
+        if self.ears.is_empty() {
+            return;
+        }
+        if self.dice.one_in(self.shared.forks) && may_go(&self.shared.tries, 0) {
+            self.fork();
+        }
+        let at = self.dice.below(self.ears.len() as u64) as usize;
+        let most = if self.ears[at].is_fork { 300 } else { 3000 };
+        if self.drops && self.dice.one_in(most) && may_go(&self.shared.receivers, 1) {
             drop_somehow(self.ears.swap_remove(at).receiver, &mut self.dice);
+        }
+    }
+
+    /// Forks one of its receivers. It keeps the fork, drops it or its maker, or has a thread start
+    /// with it.
+    fn fork(&mut self) {
+        let at = self.dice.below(self.ears.len() as u64) as usize;
+        let Some(ear) = self.ears[at].fork() else {
+            return;
+        };
+        let does = self.dice.below(6);
+        if does > 1 {
+            self.shared.receivers.fetch_add(1, SeqCst);
+        }
+        match does {
+            0 => drop_somehow(ear.receiver, &mut self.dice),
+            1 => self.ears[at].replace(ear, &mut self.dice),
+            2 | 3 => self.ears.push(ear),
+            _ => {
+                let worker = Worker {
+                    mouths: Vec::new(),
+                    ears: vec![ear],
+                    dice: self.dice.other(),
+                    ..*self
+                };
+                worker.start();
+            }
         }
     }
 }
@@ -572,7 +668,7 @@ fn threads_shape(dice: &mut Dice) -> (Shape, u64) {
 }
 
 impl Shared {
-    fn new(shape: &Shape, limit: u64, bases: &[u64]) -> Shared {
+    fn new(shape: &Shape, limit: u64, bases: &[u64], dice: &mut Dice) -> Shared {
         let numbers = || bases.iter().map(|&base| AtomicU64::new(base)).collect();
         Shared {
             order: Arc::default(),
@@ -585,10 +681,13 @@ impl Shared {
             has_ended: AtomicBool::new(false),
             senders: AtomicUsize::new(shape.senders),
             receivers: AtomicUsize::new(shape.receivers),
+            forks: dice.of_these(&[10, 50, 300, u64::MAX]),
+            tries: AtomicUsize::new(1 + dice.below(20) as usize),
         }
     }
 
-    /// Has threads work, each with some of these handles, and gives back those that are left.
+    /// Has threads work, each with some of these handles, and gives back those that are left. More
+    /// start late, with forks.
     fn work_all(
         &self,
         mouths: Vec<Mouth>,
@@ -597,47 +696,46 @@ impl Shared {
         drops: bool,
     ) -> (Vec<Mouth>, Vec<Ear>) {
         let threads = 1 + dice.below((mouths.len() + ears.len()).min(8) as u64);
-        let new = |dice: Dice| Worker {
-            shared: self,
-            mouths: Vec::new(),
-            ears: Vec::new(),
-            dice,
-            drops,
-        };
-        let mut workers: Vec<_> = (0..threads).map(|_| new(dice.other())).collect();
-        for mouth in mouths {
-            workers[dice.below(threads) as usize].mouths.push(mouth);
-        }
-        for ear in ears {
-            workers[dice.below(threads) as usize].ears.push(ear);
-        }
+        let kept = Kept::default();
         thread::scope(|scope| {
-            let working: Vec<_> = workers
-                .into_iter()
-                .map(|worker| scope.spawn(move || worker.work()))
-                .collect();
-            let (mut mouths, mut ears) = (Vec::new(), Vec::new());
-            for worker in working {
-                let (some, others) = worker.join().unwrap();
-                mouths.extend(some);
-                ears.extend(others);
+            let new = |dice: Dice| Worker {
+                scope,
+                shared: self,
+                kept: &kept,
+                mouths: Vec::new(),
+                ears: Vec::new(),
+                dice,
+                drops,
+            };
+            let mut workers: Vec<_> = (0..threads).map(|_| new(dice.other())).collect();
+            for mouth in mouths {
+                workers[dice.below(threads) as usize].mouths.push(mouth);
             }
-            (mouths, ears)
-        })
+            for ear in ears {
+                workers[dice.below(threads) as usize].ears.push(ear);
+            }
+            workers.into_iter().for_each(Worker::start);
+        });
+        kept.into_inner().unwrap()
     }
 }
 
 /// A sitting of threads, after another one or not; how many items it had.
 fn sitting(dice: &mut Dice, before: Option<&Ended>) -> (Ended, usize) {
-    let (shape, limit) = threads_shape(dice);
-    let drops = dice.one_in(2);
-    say(format!("{shape:?}, limit {limit}, drops {drops}"));
     let bases = before.map_or([0; MOST_SENDERS], |ended| ended.next);
-    let (senders, receivers) = match before {
+    let (mut shape, limit) = threads_shape(dice);
+    let drops = dice.one_in(2);
+    let shared = Shared::new(&shape, limit, &bases, dice);
+    let spares = if shape.ring { spares(dice, &shape) } else { 0 };
+    shape.receivers += spares;
+    say(format!(
+        "{shape:?}, spares {spares}, limit {limit}, drops {drops}"
+    ));
+    let (senders, mut receivers) = match before {
         Some(ended) => Bus::open_after(shape, ended).unwrap(),
         None => Bus::open(shape).unwrap(),
     };
-    let shared = Shared::new(&shape, limit, &bases);
+    drop_spares(&mut receivers, spares, dice);
     let mouths = senders.into_iter().map(Mouth::new).collect();
     let ears = receivers
         .into_iter()
@@ -830,32 +928,119 @@ async fn blocking<T: Send + 'static>(does: impl FnOnce() -> T + Send + 'static) 
     .await
 }
 
-/// Hears up to the end, now and then by futures that are dropped. It may leave before, or be slow.
-async fn hear_all(mut ear: Ear, mut dice: Dice, leaves: bool, is_slow: bool) {
-    loop {
-        let next = ear.receiver.next_item_async();
-        let item = if dice.one_in(4) {
-            match few_polls(next, dice.below(2)).await {
-                Some(item) => item,
-                None => {
-                    step_aside(1).await;
-                    continue;
+/// What the tasks that hear share: behind one item in so many one tries to fork, as long as so many
+/// tries are left. Of those that have heard the end it has how many items they heard.
+struct Hearing {
+    pool: Arc<Pool>,
+    forks: u64,
+    tries: AtomicUsize,
+    ends: Mutex<Vec<usize>>,
+}
+
+impl Hearing {
+    fn of(pool: &Arc<Pool>, dice: &mut Dice) -> Arc<Hearing> {
+        Arc::new(Hearing {
+            pool: pool.clone(),
+            forks: dice.of_these(&[10, 50, 300, u64::MAX]),
+            tries: AtomicUsize::new(1 + dice.below(20) as usize),
+            ends: Mutex::default(),
+        })
+    }
+
+    /// Now and then forks one of these. The fork joins them, or takes its maker's place, or has a
+    /// task of its own, or is dropped.
+    fn fork_some(self: &Arc<Hearing>, ears: &mut Vec<Ear>, dice: &mut Dice) {
+        if !dice.one_in(self.forks) || !may_go(&self.tries, 0) {
+            return;
+        }
+        let at = dice.below(ears.len() as u64) as usize;
+        if let Some(ear) = ears[at].fork() {
+            match dice.below(6) {
+                0 => drop_somehow(ear.receiver, dice),
+                1 => ears[at].replace(ear, dice),
+                2 | 3 => ears.push(ear),
+                _ => {
+                    let work =
+                        hear_all(self.clone(), vec![ear], dice.other(), true, dice.one_in(2));
+                    self.pool.start(work);
                 }
             }
-        } else {
-            next.await
-        };
-        match item {
-            Some(item) => ear.note(&item),
-            None => break,
-        }
-        if leaves && dice.one_in(300) {
-            break;
-        }
-        if is_slow && dice.one_in(500) {
-            blocking(|| thread::sleep(Duration::from_millis(3))).await;
         }
     }
+
+    /// Now and then drops one of these: one that was forked, or any.
+    fn drop_some(&self, ears: &mut Vec<Ear>, dice: &mut Dice, any: bool) {
+        let at = dice.below(ears.len() as u64) as usize;
+        let is_fork = ears[at].is_fork;
+        if (is_fork || any) && dice.one_in(if is_fork { 100 } else { 300 }) {
+            drop_somehow(ears.swap_remove(at).receiver, dice);
+        }
+    }
+
+    /// Whoever has heard the end has heard all of this order; how many items that is.
+    fn all_heard(&self, order: &Order) -> usize {
+        let items = order.len();
+        let ends = locked(&self.ends);
+        assert!(ends.iter().all(|&heard| heard == items), "one heard less");
+        items
+    }
+}
+
+/// The next item of any of these, and whose it is. None at the end of all.
+async fn next_of(ears: &mut [Ear]) -> Option<(usize, Item)> {
+    if let [ear] = ears {
+        return ear.receiver.next_item_async().await.map(|item| (0, item));
+    }
+    Polled(|context: &mut Context<'_>| {
+        let mut next = Poll::Ready(None);
+        for (at, ear) in ears.iter_mut().enumerate() {
+            match ear.receiver.poll_item(context) {
+                Poll::Ready(Some(item)) => return Poll::Ready(Some((at, item))),
+                Poll::Ready(None) => {}
+                Poll::Pending => next = Poll::Pending,
+            }
+        }
+        next
+    })
+    .await
+}
+
+/// Hears up to the end, now and then by futures that are dropped. It may leave before, or be slow.
+/// Forks are heard here too.
+fn hear_all(
+    hearing: Arc<Hearing>,
+    mut ears: Vec<Ear>,
+    mut dice: Dice,
+    leaves: bool,
+    is_slow: bool,
+) -> Work {
+    Box::pin(async move {
+        while !ears.is_empty() {
+            let next = next_of(&mut ears);
+            let item = if dice.one_in(4) {
+                match few_polls(next, dice.below(2)).await {
+                    Some(item) => item,
+                    None => {
+                        step_aside(1).await;
+                        continue;
+                    }
+                }
+            } else {
+                next.await
+            };
+            match item {
+                Some((at, item)) => ears[at].note(&item),
+                None => break,
+            }
+            hearing.fork_some(&mut ears, &mut dice);
+            hearing.drop_some(&mut ears, &mut dice, leaves);
+            if is_slow && dice.one_in(500) {
+                blocking(|| thread::sleep(Duration::from_millis(3))).await;
+            }
+        }
+        let ends = ears.iter().map(|ear| ear.heard);
+        locked(&hearing.ends).extend(ends);
+    })
 }
 
 /// What the tasks that send share: who of them is not done, and the senders that are.
@@ -945,17 +1130,17 @@ fn tasks_life(dice: &mut Dice) -> usize {
     say(format!("{shape:?}, stops {stops}, many {many}"));
     let (senders, receivers) = Bus::open(shape).unwrap();
     let (pool, order) = (Arc::<Pool>::default(), Arc::<Order>::default());
-    let sending = Sending::of(&shape, false);
+    let (sending, hearing) = (Sending::of(&shape, false), Hearing::of(&pool, dice));
     for receiver in receivers {
-        let ear = Ear::new(receiver, &order, &[0; MOST_SENDERS]);
-        pool.start(hear_all(ear, dice.other(), false, false));
+        let ears = vec![Ear::new(receiver, &order, &[0; MOST_SENDERS])];
+        pool.start(hear_all(hearing.clone(), ears, dice.other(), false, false));
     }
     for sender in senders {
         let work = send_many(sending.clone(), sender, dice.other(), many, stops);
         pool.start(work);
     }
     pool.run(1 + dice.below(5));
-    let items = order.len();
+    let items = hearing.all_heard(&order);
     assert!(stops || items as u64 == many * shape.senders as u64, "lost");
     items
 }
@@ -1043,10 +1228,12 @@ async fn send_to_ring(sending: Arc<Sending>, mut sender: Sender, mut dice: Dice,
 }
 
 /// Sends what waits over a ring, and hears meanwhile, in one task.
-async fn send_and_hear(sender: &mut Sender, ear: &mut Ear) -> Result<Turn, NeverFits> {
+async fn send_and_hear(sender: &mut Sender, ears: &mut [Ear]) -> Result<Turn, NeverFits> {
     Polled(|context: &mut Context<'_>| {
-        while let Poll::Ready(Some(item)) = ear.receiver.poll_item(context) {
-            ear.note(&item);
+        for ear in ears.iter_mut() {
+            while let Poll::Ready(Some(item)) = ear.receiver.poll_item(context) {
+                ear.note(&item);
+            }
         }
         sender.poll_send_when_room(context)
     })
@@ -1056,29 +1243,32 @@ async fn send_and_hear(sender: &mut Sender, ear: &mut Ear) -> Result<Turn, Never
 /// Sends so many over a ring, and hears all, in one task.
 async fn work_on_ring(
     sending: Arc<Sending>,
+    hearing: Arc<Hearing>,
     mut sender: Sender,
-    mut ear: Ear,
+    ear: Ear,
     mut dice: Dice,
     mut left: u64,
 ) {
-    let mut turn = Turn::Idle;
+    let (mut turn, mut ears) = (Turn::Idle, vec![ear]);
     while puts_more(&sending, &mut dice, turn) && left > 0 {
         let most = left.min(1 + dice.below(16));
         left -= put_some(&mut sender, most, sending.log_words);
         turn = loop {
             let polls = dice.of_these(&[0, 1, 9999]);
-            let sent = few_polls(send_and_hear(&mut sender, &mut ear), polls).await;
+            let sent = few_polls(send_and_hear(&mut sender, &mut ears), polls).await;
+            hearing.fork_some(&mut ears, &mut dice);
             match sent {
                 Some(sent) => break sent.unwrap(),
                 None => step_aside(1).await,
             }
         };
+        hearing.drop_some(&mut ears, &mut dice, false);
     }
     if closes(&sending, &mut sender, left, turn) {
-        let turn = send_and_hear(&mut sender, &mut ear).await;
+        let turn = send_and_hear(&mut sender, &mut ears).await;
         assert_eq!(turn, Ok(Turn::Closed));
     }
-    hear_all(ear, dice, false, false).await;
+    hear_all(hearing, ears, dice, false, false).await;
     sending.keep(sender);
 }
 
@@ -1125,31 +1315,35 @@ fn ring_shape(dice: &mut Dice, does_both: bool) -> Shape {
 /// A life by tasks over a ring, where each hears or sends, or does both.
 fn ring_life(dice: &mut Dice) -> usize {
     let does_both = dice.one_in(2);
-    let shape = ring_shape(dice, does_both);
+    let mut shape = ring_shape(dice, does_both);
+    let spares = spares(dice, &shape);
+    shape.receivers += spares;
     let (many, ends_early) = (1 + dice.below(300), dice.one_in(3));
     say(format!(
-        "a ring of {shape:?}, both {does_both}, many {many}, ends early {ends_early}"
+        "a ring of {shape:?}, spares {spares}, both {does_both}, many {many}, early {ends_early}"
     ));
-    let (senders, receivers) = Bus::open_ring(shape).unwrap();
+    let (senders, mut receivers) = Bus::open_ring(shape).unwrap();
+    drop_spares(&mut receivers, spares, dice);
     let (pool, order) = (Arc::<Pool>::default(), Arc::<Order>::default());
-    let sending = Sending::of(&shape, ends_early);
+    let (sending, hearing) = (Sending::of(&shape, ends_early), Hearing::of(&pool, dice));
     let mut ears: VecDeque<_> = receivers
         .into_iter()
         .map(|receiver| Ear::new(receiver, &order, &[0; MOST_SENDERS]))
         .collect();
     for sender in senders {
-        let (sending, dice) = (sending.clone(), dice.other());
+        let (sending, hearing, dice) = (sending.clone(), hearing.clone(), dice.other());
         let ear = if does_both { ears.pop_front() } else { None };
         match ear {
-            Some(ear) => pool.start(work_on_ring(sending, sender, ear, dice, many)),
+            Some(ear) => pool.start(work_on_ring(sending, hearing, sender, ear, dice, many)),
             None => pool.start(send_to_ring(sending, sender, dice, many)),
         }
     }
     for (at, ear) in ears.into_iter().enumerate() {
-        pool.start(hear_all(ear, dice.other(), at > 0, true));
+        let work = hear_all(hearing.clone(), vec![ear], dice.other(), at > 0, true);
+        pool.start(work);
     }
     pool.run(1 + dice.below(5));
-    let items = order.len();
+    let items = hearing.all_heard(&order);
     let all = many * shape.senders as u64;
     assert!(ends_early || items as u64 == all, "lost");
     items
@@ -1216,5 +1410,7 @@ fn main() {
         *locked(&NOW) = (number, Some(Instant::now()), String::new());
         items += life(&mut Dice::of(number));
     }
+    let (forks, none) = (FORKS.load(SeqCst), NO_SEATS.load(SeqCst));
     println!("{kind}: {lives} lives from {first} on passed, {items} items");
+    println!("{forks} forks, NoSeat {none}");
 }

@@ -4,7 +4,7 @@
 use crate::storms::{Load, SHAPES, Sitting, Tale, receivers_of, senders_of, sit_on};
 use crate::turn_receivers::MOST_ITEMS;
 use bus_receiver::{LEAST_ROWS_AGAIN, MOST_ROWS, Page, Shape};
-use bus_register::limits::MOST_MESSAGES;
+use bus_register::limits::{MOST_MESSAGES, MOST_RECEIVERS};
 use bus_run::buses::Bus;
 use rand_core::Rng;
 use rand_pcg::Pcg32;
@@ -52,7 +52,7 @@ pub fn run<R: Threads + Clock + Sync>(
     let is_scarce = !load.is_calm && !is_long && dice.next_u32() % 4 == 0;
     let shape = Shape {
         senders: load.senders,
-        receivers: receivers_of(seed),
+        receivers: load.receivers.saturating_add(load.spares),
         rounds: 1 + u64::from(dice.next_u32() % 4),
         rows: some_rows(&mut dice),
         log_words: match load.ring {
@@ -80,12 +80,14 @@ fn first_load(seed: u64, hands: u64, is_long: bool, dice: &mut Pcg32) -> Load {
     let few = u64::from(dice.next_u32() % 32);
     Load {
         senders: senders_of(seed),
+        receivers: receivers_of(seed),
         messages: if is_long { 1_500 } else { few },
         hands: hands.max(1),
         is_calm: dice.next_u32() % 4 == 0,
         leavers: 0,
         batch: if is_long { 1 } else { MOST_BATCH },
         ring: None,
+        spares: 0,
         after: None,
     }
 }
@@ -118,7 +120,19 @@ fn some_with_ring(load: Load, dice: &mut Pcg32) -> Load {
     Load {
         messages: items / load.senders.max(1),
         ring: Some(words),
+        spares: some_spares(load.receivers, dice),
         ..load
+    }
+}
+
+/// How many numbers are free at the start, beside those of so many receivers: in one ring of two 1
+/// to 8, in one of eight all that a bus may have, and else none.
+fn some_spares(receivers: u64, dice: &mut Pcg32) -> u64 {
+    let most = MOST_RECEIVERS.saturating_sub(receivers);
+    match dice.next_u32() % 8 {
+        0 => most,
+        1..5 => most.min(1 + u64::from(dice.next_u32() % 8)),
+        _ => 0,
     }
 }
 
@@ -175,7 +189,7 @@ fn sit_after<R: Threads + Clock + Sync>(
     };
     let shape = Shape {
         senders: load.senders,
-        receivers: receivers_of(u64::from(dice.next_u32())),
+        receivers: load.receivers.saturating_add(load.spares),
         rounds: 1 + u64::from(dice.next_u32() % 4),
         rows,
         log_words: load.ring.unwrap_or(LOG_WORDS),
@@ -197,14 +211,21 @@ fn next_load(load: Load, page: Page, is_again: bool, dice: &mut Pcg32) -> Load {
     let is_same = dice.next_u32() % 2 == 0;
     let other = senders_of(u64::from(dice.next_u32()));
     let senders = if is_same { load.senders } else { other };
+    let receivers = receivers_of(u64::from(dice.next_u32()));
     let few = u64::from(dice.next_u32() % 32);
     let is_single = !is_again && dice.next_u32() % 2 == 0;
-    let next = with_leavers(Load { senders, ..load }, dice);
+    let load = Load {
+        senders,
+        receivers,
+        ..load
+    };
+    let next = with_leavers(load, dice);
     let most = (MOST_ROWS as u64 - 1).saturating_sub(next.leavers) / senders.max(1);
     Load {
         messages: if is_again { few } else { few.min(most) },
         batch: if is_single { 1 } else { MOST_BATCH },
         ring: None,
+        spares: 0,
         after: Some(page),
         ..next
     }

@@ -22,6 +22,7 @@ pub struct Figures {
     gave_up: u64,
     stuck: u64,
     left: u64,
+    forks: u64,
     items: u64,
     most_tenures: u64,
     chains: u64,
@@ -44,6 +45,7 @@ impl Figures {
             gave_up: 0,
             stuck: 0,
             left: 0,
+            forks: 0,
             items: 0,
             most_tenures: 0,
             chains: 0,
@@ -67,6 +69,7 @@ impl Figures {
             gave_up: tale.gave_up,
             stuck: tale.stuck,
             left: tale.left,
+            forks: tale.forks,
             items: tale.items,
             most_tenures: tale.last_tenure,
             chains: u64::from(is_chain),
@@ -100,6 +103,7 @@ impl Figures {
             gave_up: self.gave_up.saturating_add(other.gave_up),
             stuck: self.stuck.saturating_add(other.stuck),
             left: self.left.saturating_add(other.left),
+            forks: self.forks.saturating_add(other.forks),
             items: self.items.saturating_add(other.items),
             most_tenures: self.most_tenures.max(other.most_tenures),
             chains: self.chains.saturating_add(other.chains),
@@ -109,10 +113,11 @@ impl Figures {
     }
 
     /// Senders stopped while they pinned a tenure, a holder was behind one to the last, a sender
-    /// left, and a sitting went on with the numbers of another.
+    /// left, a receiver forked without a ring, and a sitting went on with the numbers of another.
     pub fn shows_all(&self) -> bool {
         let has_behind = self.behinds > 0 && self.stuck > 0;
-        self.stops_while_pinned > 0 && has_behind && self.left > 0 && self.chains > 0
+        let has_forked = self.forks > self.rings.forks;
+        self.stops_while_pinned > 0 && has_behind && self.left > 0 && has_forked && self.chains > 0
     }
 
     /// A line for each figure.
@@ -127,6 +132,7 @@ impl Figures {
         println!(rt; "  workers that waited too long {}", self.gave_up)?;
         println!(rt; "  of these senders with the page {}", self.stuck)?;
         println!(rt; "  senders that left {}", self.left)?;
+        println!(rt; "  receivers forked off {}", self.forks)?;
         println!(rt; "  items {}", self.items)?;
         println!(rt; "  tenures of the longest log {}", self.most_tenures)?;
         println!(rt;

@@ -1,21 +1,23 @@
 //! `bench_turns turns` prints nanoseconds a turn for each kind of step, with 1, 3 and 8 senders.
 //! `bench_turns kinds` takes few of these turns, and prints the kind of each in their order, for a
 //! program that counts the instructions between readings of the clock.
-//! `bench_turns storm` runs buses whose workers yield, sleep or stop for good at random turns, in
-//! one thread for each processor and then in eight: 10,000 each, or as many as a further argument
-//! says. `bench_turns elections` prints own steps of elections, with 1 to 8, 16, 32 and 64 senders
-//! and either ratifier. `bench_turns reader` prints how long a plain sum, `read_log` and a receiver
-//! take for each word of a log of 65,505 words, the best of 50 rounds. With another argument it
-//! tries a little of turns, storms and readers, and prints what is the same each time.
+//! `bench_turns storm` runs buses whose workers yield, sleep, fork or stop for good at random
+//! turns, in one thread for each processor and then in eight: 10,000 each, or as many as a further
+//! argument says. `bench_turns elections` prints own steps of elections, with 1 to 8, 16, 32 and 64
+//! senders and either ratifier. `bench_turns reader` prints how long a plain sum, `read_log` and a
+//! receiver take for each word of a log of 65,505 words, the best of 50 rounds. With another
+//! argument it tries a little of turns, storms and readers, and prints what is the same each time.
 //!
 //! Exit status: 1 where a run failed, where a reader does not find all messages, or where of many
-//! runs none had a holder behind another sender to the last, none was a chain of sittings, or none
-//! was of a ring in which a receiver left or stopped and a sender was answered Full.
+//! runs none had a holder behind another sender to the last, none was a chain of sittings, none
+//! forked, or none was of a ring in which a receiver left, stopped, forked or found no number for a
+//! fork, and a sender was answered Full.
 #![tactic(auto)]
 
 mod chains;
 mod elections;
 mod figures;
+mod hearers;
 mod orders;
 mod readers;
 mod rings;

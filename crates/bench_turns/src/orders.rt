@@ -1,7 +1,8 @@
 //! The order of a sitting, and what its workers know of it. Of a ring the log keeps only its end.
 
+use crate::hearers::Hearer;
 use crate::storms::Load;
-use crate::turn_receivers::TurnReceiver;
+use crate::turn_receivers::{Notes, Tally, TurnReceiver};
 use crate::workers::{Rest, Teller};
 use anyhow::{bail, ensure};
 use bus_deliverylog::LogRead;
@@ -33,23 +34,23 @@ pub struct Facts {
 }
 
 impl<'a> Whole<'a> {
-    /// The order of which this receiver was given the beginning, and these words say the rest.
-    pub fn new<B: OfBus>(
+    /// The order that begins with so much of this, and of which these words say the rest.
+    pub fn new(
         alloc: Global,
-        first: &'a TurnReceiver<B>,
+        first: &'a Notes,
+        before: Tally,
         read: LogRead,
     ) -> Result<Whole<'a>, AllocError> {
-        let (items, marks) = first.passed;
         let mut left = Vec::with_capacity(alloc, MOST_SENDERS)?;
-        for mark in first.left.iter().take(marks) {
+        for mark in first.left.iter().take(before.marks) {
             left.push(*mark)?;
         }
         for (sender, behind) in read.order.left.iter().copied() {
-            left.push((sender, behind.saturating_add(items as u64)))?;
+            left.push((sender, behind.saturating_add(before.items as u64)))?;
         }
         let given = first.items.as_slice();
         Ok(Whole {
-            given: &given[..items.min(given.len())],
+            given: &given[..before.items.min(given.len())],
             read,
             left,
         })
@@ -118,30 +119,40 @@ fn count(nexts: &mut [u64; MOST_SENDERS], item: &Item) -> anyhow::Result<()> {
     Ok(())
 }
 
-/// What each receiver was given begins the order, and is all of it for one that did not stop and
-/// has not left.
-pub fn have_heard<B: OfBus>(
-    whole: &Whole<'_>,
-    receive_workers: &[TurnReceiver<B>],
-) -> anyhow::Result<()> {
-    for receive_worker in receive_workers {
-        has_heard(whole, receive_worker)?;
+/// What each worker was given begins the order, and what each of its receivers was given is all of
+/// it, unless the worker stopped or has left.
+pub fn have_heard<B: OfBus>(whole: &Whole<'_>, hearers: &[Hearer<B>]) -> anyhow::Result<()> {
+    for hearer in hearers {
+        begins(whole, &hearer.notes)?;
+        let has_stopped = matches!(hearer.rest, Some(Rest::Stopped | Rest::Left));
+        for receiver in hearer.receivers.iter() {
+            has_heard(whole, receiver, has_stopped)?;
+        }
     }
     Ok(())
 }
 
-/// The same of one receiver.
-fn has_heard<B: OfBus>(whole: &Whole<'_>, receive_worker: &TurnReceiver<B>) -> anyhow::Result<()> {
-    let items = receive_worker.items.as_slice();
-    ensure!(receive_worker.is_sound, "an item given is not the next");
-    ensure!(whole.begins_with(items), "another order was given");
-    let left = receive_worker.left.as_slice();
-    let is_same = whole.left.as_slice().starts_with(left);
+/// What the receivers of a worker were given is one thing, and begins the order.
+fn begins(whole: &Whole<'_>, notes: &Notes) -> anyhow::Result<()> {
+    ensure!(notes.is_sound, "an item given is not the next");
+    ensure!(notes.is_same, "a fork was given another item");
+    let is_same = whole.begins_with(notes.items.as_slice());
+    ensure!(is_same, "another order was given");
+    let is_same = whole.left.as_slice().starts_with(notes.left.as_slice());
     ensure!(is_same, "others were said to have left");
-    let has_items = items.len() == whole.len() && left.len() == whole.left.len();
-    let has_end = receive_worker.heard.ended();
+    Ok(())
+}
+
+/// What this receiver was given is all, unless its worker stopped or has left.
+fn has_heard<B: OfBus>(
+    whole: &Whole<'_>,
+    receiver: &TurnReceiver<B>,
+    has_stopped: bool,
+) -> anyhow::Result<()> {
+    let tally = receiver.tally;
+    let has_items = tally.items == whole.len() && tally.marks == whole.left.len();
+    let has_end = receiver.heard.ended();
     let is_all = has_items && has_end == whole.read.order.ended;
-    let has_stopped = matches!(receive_worker.rest, Some(Rest::Stopped | Rest::Left));
     ensure!(is_all || has_stopped, "a receiver was not given all");
     ensure!(is_all || !has_end, "an end was given too early");
     Ok(())

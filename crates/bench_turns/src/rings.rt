@@ -14,6 +14,10 @@ pub struct Rings {
     pub gone: u64,
     /// How many receivers stopped for good.
     pub stops: u64,
+    /// How many receivers were forked off others.
+    pub forks: u64,
+    /// How many forks found each higher number taken.
+    pub refused: u64,
     /// In how many a sender was without room to the last.
     pub without_room: u64,
 }
@@ -27,6 +31,8 @@ impl Rings {
             fulls: 0,
             gone: 0,
             stops: 0,
+            forks: 0,
+            refused: 0,
             without_room: 0,
         }
     }
@@ -39,15 +45,19 @@ impl Rings {
             fulls: self.fulls.saturating_add(other.fulls),
             gone: self.gone.saturating_add(other.gone),
             stops: self.stops.saturating_add(other.stops),
+            forks: self.forks.saturating_add(other.forks),
+            refused: self.refused.saturating_add(other.refused),
             without_room: self.without_room.saturating_add(other.without_room),
         }
     }
 
-    /// Words were used again, a sender was answered Full, a receiver left, and one stopped, which
-    /// left a sender without room.
+    /// Words were used again, a sender was answered Full, a receiver left, one stopped, which left
+    /// a sender without room, one forked, and one was refused.
     pub fn show_all(&self) -> bool {
         let has_gone = self.gone > 0 && self.stops > 0;
-        self.times_over > 0 && self.fulls > 0 && has_gone && self.without_room > 0
+        let has_forked = self.forks > 0 && self.refused > 0;
+        let is_short = self.fulls > 0 && self.without_room > 0;
+        self.times_over > 0 && is_short && has_gone && has_forked
     }
 
     /// A line for each figure.
@@ -59,6 +69,10 @@ impl Rings {
         println!(rt; "  of these turns answered full {}", self.fulls)?;
         println!(rt; "  receivers that left {}", self.gone)?;
         println!(rt; "  receivers that stopped {}", self.stops)?;
+        println!(rt;
+            "  receivers forked off {}, and refused a number {}",
+            self.forks, self.refused
+        )?;
         println!(rt;
             "  rings with a sender without room to the last {}",
             self.without_room

@@ -3,19 +3,23 @@
 
 ghost use Rattle.std.specs.Prelude.{◌≡◌, Some};
 
+use crate::hearers::Hearer;
 use crate::orders::{Facts, Whole, have_heard, have_left};
 use crate::rings::Rings;
 use crate::storms::{Load, Sitting, Tale};
-use crate::turn_receivers::TurnReceiver;
+use crate::turn_receivers::{Passed, TurnReceiver};
 use crate::workers::{Rest, Teller};
 use anyhow::{bail, ensure};
 use bus_deliverylog::{LogRead, read_log};
 use bus_pageslot::OfBus;
 use bus_receiver::{EndFault, Ended, Heard, Page, SenderNo, Turn};
-use bus_register::limits::MOST_SENDERS;
+use bus_register::limits::{MOST_RECEIVERS, MOST_SENDERS};
 use bus_run::audits::audit;
 use bus_run::buses::{Tap, TheBus};
 use std::alloc::{AllocError, Global};
+
+/// So many numbers receivers have at most.
+const SEATS: usize = MOST_RECEIVERS as usize;
 
 /// Ends the sitting. The words of its log that stand are read by the receiver that has passed
 /// least. So its order is what that one was given before, and what these say.
@@ -23,56 +27,58 @@ pub fn settle<B: OfBus>(
     alloc: Global,
     the: TheBus<B>,
     mut tellers: Vec<Teller<B>>,
-    mut receive_workers: Vec<TurnReceiver<B>>,
+    mut hearers: Vec<Hearer<B>>,
     load: Load,
 ) -> anyhow::Result<Sitting> {
-    let Some((slowest, floor)) = slowest_of(&receive_workers) else {
+    let Some((slowest, floor)) = slowest_of(&hearers) else {
         bail!("no receiver is there");
     };
-    let words = words_from(alloc, &the, &mut receive_workers, slowest, floor)?;
-    let length = floor.saturating_add(words.len() as u64);
+    let words = words_from(alloc, &the, &mut hearers, slowest, floor)?;
+    let length = floor.words.saturating_add(words.len() as u64);
     let read = read_log(alloc, words.as_slice(), load.senders)?;
-    let facts = facts_of(alloc, &receive_workers, slowest, read, &tellers, load)?;
+    let facts = facts_of(alloc, &hearers, (slowest, floor), read, &tellers, load)?;
     have_told(facts.nexts, &tellers)?;
     have_waited(&tellers)?;
-    have_room(&the, &mut tellers, length.saturating_sub(floor), load)?;
-    let rings = rings_of(&tellers, &receive_workers, length, load);
-    let tale = tale_of(&facts, &tellers, &receive_workers, load, rings);
-    let Some(ended) = end(alloc, the, receive_workers, load, tale)? else {
+    have_room(&the, &mut tellers, words.len() as u64, load)?;
+    have_forked(&hearers, load)?;
+    let rings = rings_of(&tellers, &hearers, length, load);
+    let tale = tale_of(&facts, &tellers, &hearers, load, rings);
+    let Some(ended) = end(alloc, the, hearers, load, tale)? else {
         return Ok(Sitting { tale, page: None });
     };
-    let is_same = ended.log() == words.as_slice() && ended.floor() == floor;
+    let is_same = ended.log() == words.as_slice() && ended.floor() == floor.words;
     ensure!(is_same, "the log left is another");
     let page = page_of(&ended, &facts, load, length)?;
     Ok(Sitting { tale, page })
 }
 
-/// The first of the receivers that have passed least, of those that have not left, and that place.
-fn slowest_of<B: OfBus>(receive_workers: &[TurnReceiver<B>]) -> Option<(usize, u64)> {
-    let mut least: Option<(usize, u64)> = None;
-    for (place, receive_worker) in receive_workers.iter().enumerate() {
+/// Where the first of the receivers stands that have passed least, of those that have not left, and
+/// which worker holds it.
+fn slowest_of<B: OfBus>(hearers: &[Hearer<B>]) -> Option<(usize, Passed)> {
+    let mut least: Option<(usize, Passed)> = None;
+    for (place, hearer) in hearers.iter().enumerate() {
         let before = match least {
-            Some((_, passed)) => passed,
+            Some((_, floor)) => floor.words,
             None => u64::MAX,
         };
-        match receive_worker.floor() {
-            Some(passed) if passed < before => least = Some((place, passed)),
+        match hearer.floor() {
+            Some(floor) if floor.words < before => least = Some((place, floor)),
             _ => {}
         }
     }
     least
 }
 
-/// The words of the log from this place on, loaded by the receiver that has passed it.
+/// The words of the log from this place on, loaded by a receiver of this worker that has passed it.
 fn words_from<B: OfBus>(
     alloc: Global,
     the: &TheBus<B>,
-    receive_workers: &mut [TurnReceiver<B>],
+    hearers: &mut [Hearer<B>],
     slowest: usize,
-    floor: u64,
+    floor: Passed,
 ) -> Result<Vec<u64>, AllocError> {
-    match receive_workers.get_mut(slowest) {
-        Some(receive_worker) => receive_worker.words(alloc, the, floor),
+    match hearers.get_mut(slowest) {
+        Some(hearer) => hearer.words(alloc, the, floor.words),
         None => Ok(Vec::new(alloc)),
     }
 }
@@ -81,17 +87,17 @@ fn words_from<B: OfBus>(
 /// what the slowest receiver was given, and the rest was read.
 fn facts_of<B: OfBus>(
     alloc: Global,
-    receive_workers: &[TurnReceiver<B>],
-    slowest: usize,
+    hearers: &[Hearer<B>],
+    (slowest, floor): (usize, Passed),
     read: LogRead,
     tellers: &[Teller<B>],
     load: Load,
 ) -> anyhow::Result<Facts> {
-    let Some(first) = receive_workers.get(slowest) else {
+    let Some(first) = hearers.get(slowest) else {
         bail!("no receiver is there");
     };
-    let whole = Whole::new(alloc, first, read)?;
-    have_heard(&whole, receive_workers)?;
+    let whole = Whole::new(alloc, &first.notes, floor.before, read)?;
+    have_heard(&whole, hearers)?;
     have_left(&whole, tellers)?;
     whole.facts(load)
 }
@@ -101,13 +107,13 @@ fn facts_of<B: OfBus>(
 fn end<B: OfBus>(
     alloc: Global,
     the: TheBus<B>,
-    mut receive_workers: Vec<TurnReceiver<B>>,
+    mut hearers: Vec<Hearer<B>>,
     load: Load,
     tale: Tale,
 ) -> anyhow::Result<Option<Ended>> {
     let is_cut = tale.is_whole || !load.is_calm || tale.gave_up > 0;
     ensure!(is_cut, "nobody stopped, and something is missing");
-    let Some(tap) = take_tap(&mut receive_workers) else {
+    let Some(tap) = take_tap(&mut hearers) else {
         bail!("no receiver is there");
     };
     let left = end_with(the, tap, tale.is_out)?;
@@ -115,17 +121,17 @@ fn end<B: OfBus>(
         let Some(ended) = &left else {
             bail!("all was sent, and the page is out");
         };
-        hold_against(alloc, ended, receive_workers, load)?;
+        hold_against(alloc, ended, hearers, load)?;
     }
     Ok(left)
 }
 
-/// The tap of the last receiver that has not left.
-fn take_tap<B: OfBus>(receive_workers: &mut [TurnReceiver<B>]) -> Option<Tap>
+/// The tap of the first receiver that has not left.
+fn take_tap<B: OfBus>(hearers: &mut [Hearer<B>]) -> Option<Tap>
     ensures { (held : _) → result ≡ Some held → held.table_id ≡ B.table }
 {
-    for receive_worker in receive_workers.iter_mut() {
-        if let Some(tap) = receive_worker.take_tap() {
+    for hearer in hearers.iter_mut() {
+        if let Some(tap) = hearer.take_tap() {
             return Some(tap);
         }
     }
@@ -152,14 +158,21 @@ fn end_with<B: OfBus>(the: TheBus<B>, tap: Tap, is_out: bool) -> anyhow::Result<
 fn hold_against<B: OfBus>(
     alloc: Global,
     ended: &Ended,
-    receive_workers: Vec<TurnReceiver<B>>,
+    hearers: Vec<Hearer<B>>,
     load: Load,
 ) -> anyhow::Result<()> {
-    let mut heards = Vec::with_capacity(alloc, receive_workers.len())?;
-    for receive_worker in receive_workers {
-        let TurnReceiver { heard, rest, .. } = receive_worker;
+    let mut heards = Vec::with_capacity(alloc, hearers.len())?;
+    for hearer in hearers {
+        let Hearer {
+            receivers,
+            rest,
+            ..
+        } = hearer;
         if rest != Some(Rest::Left) {
-            heards.push(heard)?;
+            for receiver in receivers {
+                let TurnReceiver { heard, .. } = receiver;
+                heards.push(heard)?;
+            }
         }
     }
     all_sent(ended, load)?;
@@ -230,7 +243,7 @@ fn page_of(ended: &Ended, facts: &Facts, load: Load, length: u64) -> anyhow::Res
 fn tale_of<B: OfBus>(
     facts: &Facts,
     tellers: &[Teller<B>],
-    receive_workers: &[TurnReceiver<B>],
+    hearers: &[Hearer<B>],
     load: Load,
     rings: Rings,
 ) -> Tale {
@@ -241,14 +254,17 @@ fn tale_of<B: OfBus>(
     let with_page = tellers.iter().filter(|teller| teller.has_page);
     Tale {
         sittings: 1,
-        stops: count(tellers, receive_workers, Rest::Stopped),
+        stops: count(tellers, hearers, Rest::Stopped),
         stops_while_pinned: while_pinned.count() as u64,
         behinds: tellers
             .iter()
             .fold(0u64, |sum, teller| sum.saturating_add(teller.behinds)),
-        gave_up: count(tellers, receive_workers, Rest::GaveUp),
+        gave_up: count(tellers, hearers, Rest::GaveUp),
         stuck: with_page.filter(|teller| teller.waited_too_long()).count() as u64,
         left: tellers.iter().filter(|teller| teller.has_left).count() as u64,
+        forks: hearers
+            .iter()
+            .fold(0u64, |sum, hearer| sum.saturating_add(hearer.forks)),
         is_out: tellers.iter().any(|teller| teller.has_page),
         is_calm: load.is_calm,
         is_whole: load.is_calm && has_sent && facts.ended,
@@ -261,37 +277,43 @@ fn tale_of<B: OfBus>(
 /// What came of it where its log is a ring.
 fn rings_of<B: OfBus>(
     tellers: &[Teller<B>],
-    receive_workers: &[TurnReceiver<B>],
+    hearers: &[Hearer<B>],
     length: u64,
     load: Load,
 ) -> Rings {
     let Some(words) = load.ring else {
         return Rings::none();
     };
-    Rings {
+    let mut rings = Rings {
         rings: 1,
         times_over: length / words.max(1),
         fulls: tellers
             .iter()
             .fold(0u64, |sum, teller| sum.saturating_add(teller.fulls)),
-        gone: resting(receive_workers, Rest::Left),
-        stops: resting(receive_workers, Rest::Stopped),
         without_room: u64::from(tellers.iter().any(|teller| teller.lacks_room)),
+        ..Rings::none()
+    };
+    for hearer in hearers {
+        rings.gone = rings.gone.saturating_add(hearer.gone);
+        rings.forks = rings.forks.saturating_add(hearer.forks);
+        rings.refused = rings.refused.saturating_add(hearer.refused);
+        if hearer.rest == Some(Rest::Stopped) {
+            let held = hearer.receivers.len() as u64;
+            rings.stops = rings.stops.saturating_add(held);
+        }
     }
+    rings
 }
 
 /// How many workers rest for this reason.
-fn count<B: OfBus>(tellers: &[Teller<B>], receive_workers: &[TurnReceiver<B>], rest: Rest) -> u64 {
+fn count<B: OfBus>(tellers: &[Teller<B>], hearers: &[Hearer<B>], rest: Rest) -> u64 {
     let senders = tellers.iter().filter(|t| t.rest == Some(rest)).count();
-    resting(receive_workers, rest).saturating_add(senders as u64)
+    resting(hearers, rest).saturating_add(senders as u64)
 }
 
-/// How many receivers rest for this reason.
-fn resting<B: OfBus>(receive_workers: &[TurnReceiver<B>], rest: Rest) -> u64 {
-    receive_workers
-        .iter()
-        .filter(|l| l.rest == Some(rest))
-        .count() as u64
+/// How many workers that hear rest for this reason.
+fn resting<B: OfBus>(hearers: &[Hearer<B>], rest: Rest) -> u64 {
+    hearers.iter().filter(|l| l.rest == Some(rest)).count() as u64
 }
 
 /// Each sender has in the order what it was told, and nothing that it has not put; and just what it
@@ -358,5 +380,30 @@ fn have_room<B: OfBus>(
         let is_same = !teller.lacks_room || teller.has_room(the) == fits;
         ensure!(is_same, "a look finds other room");
     }
+    Ok(())
+}
+
+/// Of a ring no two receivers have one number. Of another bus no fork was refused.
+fn have_forked<B: OfBus>(hearers: &[Hearer<B>], load: Load) -> anyhow::Result<()> {
+    let mut taken = [false; SEATS];
+    for hearer in hearers {
+        let is_right = hearer.refused == 0 || load.ring.is_some();
+        ensure!(is_right, "a fork was refused on a bus that is no ring");
+        for receiver in hearer.receivers.iter() {
+            if let Some(number) = receiver.seat() {
+                take_seat(&mut taken, number)?;
+            }
+        }
+    }
+    Ok(())
+}
+
+/// Takes this number, which nobody may have.
+fn take_seat(taken: &mut [bool; SEATS], number: u64) -> anyhow::Result<()> {
+    let Some(is_taken) = taken.get_mut(number as usize) else {
+        bail!("a receiver has no number of the ring");
+    };
+    ensure!(!*is_taken, "two receivers have one number");
+    *is_taken = true;
     Ok(())
 }

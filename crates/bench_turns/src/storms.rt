@@ -1,12 +1,12 @@
-//! A sitting whose workers yield, sleep a random while, leave, or stop for good.
+//! A sitting whose workers yield, sleep a random while, fork, leave, or stop for good.
 
 ghost use Rattle.std.specs.Prelude.{◌≡◌, All};
 ghost use Rattle.bus_pageslot.specs.Seats.{table_of};
 
+use crate::hearers::{Hearer, hearers_of};
 use crate::rings::Rings;
 use crate::send_workers::turn_senders_of;
 use crate::settling::settle;
-use crate::turn_receivers::{TurnReceiver, turn_receivers_of};
 use crate::workers::{MOST_TURNS, Patience, Teller};
 use bus_pageslot::OfBus;
 use bus_receiver::{Page, SenderNo};
@@ -27,6 +27,8 @@ pub const SHAPES: u64 = 69;
 #[derive(Clone, Copy)]
 pub struct Load {
     pub senders: u64,
+    /// So many workers hear.
+    pub receivers: u64,
     pub messages: u64,
     /// So many threads at most, each of which plays its workers by turns.
     pub hands: u64,
@@ -39,6 +41,8 @@ pub struct Load {
     pub batch: u32,
     /// So many words of the log, where it is a ring.
     pub ring: Option<u64>,
+    /// Of a ring: so many receivers more leave at the start.
+    pub spares: u64,
     /// The page with whose numbers the sitting goes on.
     pub after: Option<Page>,
 }
@@ -88,6 +92,8 @@ pub struct Tale {
     pub stuck: u64,
     /// How many senders have left.
     pub left: u64,
+    /// How many receivers were forked off others.
+    pub forks: u64,
     /// The page was out at its end.
     pub is_out: bool,
     /// Nobody was to stop.
@@ -115,6 +121,7 @@ impl Tale {
             gave_up: self.gave_up.saturating_add(next.gave_up),
             stuck: self.stuck.saturating_add(next.stuck),
             left: self.left.saturating_add(next.left),
+            forks: self.forks.saturating_add(next.forks),
             is_out: self.is_out || next.is_out,
             is_calm: self.is_calm && next.is_calm,
             is_whole: self.is_whole && next.is_whole,
@@ -129,7 +136,7 @@ impl Tale {
 #[derive(Drop)]
 struct Hand<B: OfBus> {
     tellers: Vec<Teller<B>>,
-    receive_workers: Vec<TurnReceiver<B>>,
+    hearers: Vec<Hearer<B>>,
     dice: Pcg32,
     /// No other thread plays workers of this sitting.
     is_alone: bool,
@@ -178,41 +185,41 @@ pub fn sit_on<B: OfBus + Send + Sync, R: Threads + Clock + Sync>(
         let leaves_at = load.leaves_at(send_worker.sender.number(), dice);
         tellers.push(Teller::new(send_worker, &load, leaves_at, patience))?;
     }
-    let receive_workers = turn_receivers_of::<B>(alloc, taps, dice, &load)?;
-    let hands = deal(alloc, load, tellers, receive_workers, dice)?;
+    let hearers = hearers_of::<B>(alloc, &the, taps, dice, &load)?;
+    let hands = deal(alloc, load, tellers, hearers, dice)?;
     let hands = thread::map_vec(rt, hands, &|hand| play(rt, &the, hand))?;
-    let (mut tellers, mut receive_workers) = gather(alloc, hands)?;
-    all_catch_up(&the, &mut receive_workers);
+    let (mut tellers, mut hearers) = gather(alloc, hands)?;
+    all_catch_up(&the, &mut hearers);
     for teller in tellers.iter_mut() {
         if teller.close(&the, dice) {
             break;
         }
     }
-    all_catch_up(&the, &mut receive_workers);
-    settle(alloc, the, tellers, receive_workers, load)
+    all_catch_up(&the, &mut hearers);
+    settle(alloc, the, tellers, hearers, load)
 }
 
 /// All receivers go on to the end of the log, but for those that stopped or have left.
-fn all_catch_up<B: OfBus>(the: &TheBus<B>, receive_workers: &mut [TurnReceiver<B>]) {
-    for receive_worker in receive_workers.iter_mut() {
-        receive_worker.catch_up(the);
+fn all_catch_up<B: OfBus>(the: &TheBus<B>, hearers: &mut [Hearer<B>]) {
+    for hearer in hearers.iter_mut() {
+        hearer.catch_up(the);
     }
 }
 
-/// Deals the workers to so many hands, the senders from the first hand on, and the receivers from
-/// the last.
+/// Deals the workers to so many hands, those that send from the first hand on, and those that hear
+/// from the last.
 fn deal<B: OfBus>(
     alloc: Global,
     load: Load,
     tellers: Vec<Teller<B>>,
-    receive_workers: Vec<TurnReceiver<B>>,
+    hearers: Vec<Hearer<B>>,
     dice: &mut Pcg32,
 ) -> Result<Vec<Hand<B>>, AllocError> {
     let mut hands = Vec::new(alloc);
     for stream in 0..load.hands {
         hands.push(Hand {
             tellers: Vec::new(alloc),
-            receive_workers: Vec::new(alloc),
+            hearers: Vec::new(alloc),
             dice: Pcg32::new(u64::from(dice.next_u32()), stream),
             is_alone: load.hands == 1,
         })?;
@@ -223,9 +230,9 @@ fn deal<B: OfBus>(
             hand.tellers.push(teller)?;
         }
     }
-    for (place, receive_worker) in receive_workers.into_iter().enumerate() {
+    for (place, hearer) in hearers.into_iter().enumerate() {
         if let Some(hand) = hands.get_mut(many - 1 - place % many) {
-            hand.receive_workers.push(receive_worker)?;
+            hand.hearers.push(hearer)?;
         }
     }
     Ok(hands)
@@ -244,11 +251,11 @@ fn play<B: OfBus, R: Clock>(rt: &R, the: &TheBus<B>, mut hand: Hand<B>) -> Hand<
                 yield_if(is_idle && !is_alone);
             }
         }
-        for receive_worker in hand.receive_workers.iter_mut() {
-            if receive_worker.rest.is_none() {
+        for hearer in hand.hearers.iter_mut() {
+            if hearer.rest.is_none() {
                 is_at_work = true;
                 let is_due = pause(rt, &mut hand.dice, is_alone);
-                let is_idle = is_due && receive_worker.turn(the, &mut hand.dice);
+                let is_idle = is_due && hearer.turn(the, &mut hand.dice);
                 yield_if(is_idle && !is_alone);
             }
         }
@@ -282,21 +289,21 @@ fn yield_if(is_idle: bool) {
 fn gather<B: OfBus>(
     alloc: Global,
     hands: Vec<Hand<B>>,
-) -> Result<(Vec<Teller<B>>, Vec<TurnReceiver<B>>), AllocError> {
+) -> Result<(Vec<Teller<B>>, Vec<Hearer<B>>), AllocError> {
     let mut tellers = Vec::new(alloc);
-    let mut receive_workers = Vec::new(alloc);
+    let mut hearers = Vec::new(alloc);
     for hand in hands {
         let Hand {
             tellers: some,
-            receive_workers: others,
+            hearers: others,
             ..
         } = hand;
         for teller in some {
             tellers.push(teller)?;
         }
-        for receive_worker in others {
-            receive_workers.push(receive_worker)?;
+        for hearer in others {
+            hearers.push(hearer)?;
         }
     }
-    Ok((tellers, receive_workers))
+    Ok((tellers, hearers))
 }

@@ -1,10 +1,9 @@
-//! Receivers of a storm, on the bus B: each takes one turn a call, rests for good after a number of
-//! turns, or leaves.
+//! Receivers of a storm, on the bus B: each takes one turn a call, forks, or leaves. What it is
+//! given is held against what others of its worker were given.
 
-ghost use Rattle.std.specs.Prelude.{◌≡◌, All, Some};
+ghost use Rattle.std.specs.Prelude.{◌≡◌, Some};
 
-use crate::storms::Load;
-use crate::workers::{MOST_TURNS, Patience, Rest};
+use crate::workers::MOST_TURNS;
 use bus_pageslot::OfBus;
 use bus_receiver::{Heard, Item, Page, RecvTurn, SenderNo};
 use bus_register::limits::MOST_SENDERS;
@@ -19,133 +18,254 @@ pub const MOST_ITEMS: usize = 3_072;
 
 /// How a receiver goes.
 #[derive(Clone, Copy)]
-pub struct Gait {
-    patience: Patience,
-    /// Of so many calls it takes a turn at one.
-    pace: u32,
-    /// Where it would stop it leaves.
-    leaves: bool,
+pub struct Pace {
+    /// So many turns of its worker go by before it begins.
+    late: u32,
+    /// Of so many it takes one.
+    apart: u32,
 }
 
-impl Gait {
-    /// Of a bus that is no ring.
-    pub fn cast(dice: &mut Pcg32, is_calm: bool) -> Gait {
-        Gait {
-            patience: Patience::cast(dice, is_calm),
-            pace: 1,
-            leaves: false,
+impl Pace {
+    /// It takes each turn.
+    pub fn full() -> Pace {
+        Pace { late: 0, apart: 1 }
+    }
+
+    /// Three in eight are slow, and take one turn of 2, 4 or 8.
+    pub fn cast(dice: &mut Pcg32) -> Pace {
+        Pace {
+            late: 0,
+            apart: 1 << (dice.next_u32() % 8).saturating_sub(4),
         }
     }
 
-    /// Of a ring: three in eight are slow, and one in four leaves, at any moment, if it may.
-    pub fn cast_of_ring(dice: &mut Pcg32, is_calm: bool, may_leave: bool) -> Gait {
-        let pace = 1 << (dice.next_u32() % 8).saturating_sub(4);
-        let leaves = may_leave && dice.next_u32() % 4 == 0;
-        let patience = if leaves {
-            Patience::short(dice)
-        } else {
-            Patience::cast(dice, is_calm)
+    /// The same, and one in two begins late.
+    pub fn cast_of_fork(dice: &mut Pcg32) -> Pace {
+        let late = dice.next_u32() % 256;
+        Pace {
+            late: if dice.next_u32() % 2 == 0 { late } else { 0 },
+            ..Pace::cast(dice)
+        }
+    }
+}
+
+/// So many items and leave marks.
+#[derive(Clone, Copy)]
+pub struct Tally {
+    pub items: usize,
+    pub marks: usize,
+}
+
+/// A place of the log that a receiver has passed, and what it was given before that.
+#[derive(Clone, Copy)]
+pub struct Passed {
+    pub words: u64,
+    pub before: Tally,
+}
+
+/// What the receivers of a worker were given, each from the beginning to where it stands: of a
+/// forked one what its maker was given up to the fork, and then what it was given itself.
+#[derive(Drop)]
+pub struct Notes {
+    pub items: Vec<Item>,
+    /// Who left, and after how many items.
+    pub left: Vec<(SenderNo, u64)>,
+    /// Each answer of a receiver could follow those before it, and there was room for it.
+    pub is_sound: bool,
+    /// At each place all that came to it were given the same.
+    pub is_same: bool,
+}
+
+impl Notes {
+    /// Nothing.
+    pub fn new(alloc: Global) -> Result<Notes, AllocError> {
+        Ok(Notes {
+            items: Vec::with_capacity(alloc, MOST_ITEMS)?,
+            left: Vec::with_capacity(alloc, MOST_SENDERS)?,
+            is_sound: true,
+            is_same: true,
+        })
+    }
+
+    /// The item that one is given who was given so many before.
+    fn take_item(&mut self, before: usize, item: Item) {
+        if before == self.items.len() {
+            self.is_sound &= self.items.push(item).is_ok();
+            return;
+        }
+        let is_same = match self.items.get(before) {
+            Some(other) => *other == item,
+            None => false,
         };
-        Gait {
-            patience,
-            pace,
-            leaves,
+        self.is_same &= is_same;
+    }
+
+    /// The leave mark that one is given who was given so many before.
+    fn take_mark(&mut self, before: usize, mark: (SenderNo, u64)) {
+        if before == self.left.len() {
+            self.is_sound &= self.left.push(mark).is_ok();
+            return;
         }
+        let is_same = match self.left.get(before) {
+            Some(other) => *other == mark,
+            None => false,
+        };
+        self.is_same &= is_same;
     }
 }
 
-/// A receiver of the bus B, with all that it was given.
+/// A receiver of the bus B.
 #[derive(Drop)]
 pub struct TurnReceiver<B: OfBus> {
     /// None once it has left.
     tap: Option<Tap>,
     pub heard: Heard,
-    pub items: Vec<Item>,
-    /// Who left, by what it was given, and after how many items.
-    pub left: Vec<(SenderNo, u64)>,
-    /// How many items, and how many leave marks, it was given before the place that it has passed.
-    pub passed: (usize, usize),
-    pub rest: Option<Rest>,
-    /// Each answer could follow those before it, and there was room for it.
-    pub is_sound: bool,
-    gait: Gait,
+    /// What it was given; of a forked one with what its maker was given before.
+    pub tally: Tally,
+    /// What of that stands before the place that it has passed.
+    passed: Tally,
+    pace: Pace,
+    /// It takes this turn of its worker.
+    is_due: bool,
     of: PhantomData<B>,
     ghost of_bus: { (held : _) → tap ≡ Some held → held.table_id ≡ B.table },
 }
 
 impl<B: OfBus> TurnReceiver<B> {
     /// A receiver that has not begun, of the sitting that goes on after this page.
-    pub fn new(
-        alloc: Global,
-        tap: Tap,
-        gait: Gait,
-        after: Option<&Page>,
-    ) -> Result<TurnReceiver<B>, AllocError>
+    pub fn new(tap: Tap, pace: Pace, after: Option<&Page>) -> TurnReceiver<B>
         requires { tap.table_id ≡ B.table }
     {
         let heard = match after {
             Some(page) => Heard::after(page),
             None => Heard::new(),
         };
-        Ok(TurnReceiver {
+        let nothing = Tally { items: 0, marks: 0 };
+        TurnReceiver {
             tap: Some(tap),
             heard,
-            items: Vec::with_capacity(alloc, MOST_ITEMS)?,
-            left: Vec::with_capacity(alloc, MOST_SENDERS)?,
-            passed: (0, 0),
-            rest: None,
-            is_sound: true,
-            gait,
+            tally: nothing,
+            passed: nothing,
+            pace,
+            is_due: false,
             of: PhantomData,
-        })
+        }
     }
 
-    /// One turn, unless it rests, or is slow. Says whether there was nothing to do.
-    pub fn turn(&mut self, the: &TheBus<B>, dice: &mut Pcg32) -> bool {
-        if dice.next_u32() % self.gait.pace.max(1) != 0 {
-            return false;
+    /// The receiver of this tap, which was given what this one was given.
+    fn with_tap(&self, tap: Tap, pace: Pace) -> TurnReceiver<B>
+        requires { tap.table_id ≡ B.table }
+    {
+        TurnReceiver {
+            tap: Some(tap),
+            heard: self.heard.copied(),
+            tally: self.tally,
+            passed: self.passed,
+            pace,
+            is_due: false,
+            of: PhantomData,
         }
-        self.rest = self.gait.patience.spend();
-        if self.rest == Some(Rest::Stopped) && self.gait.leaves {
-            self.leave(the);
+    }
+
+    /// Forks, as `Receiver::fork` does: to the lowest number above its own that is free, and on a
+    /// bus that is no ring to its own. None where each was taken, or where it has left.
+    pub fn fork(&mut self, the: &TheBus<B>, pace: Pace) -> Option<TurnReceiver<B>> {
+        let (own, passers) = match &self.tap {
+            Some(tap) => (tap.number(), tap.passers()),
+            None => return None,
+        };
+        if passers == 0 {
+            return self.fork_flat(the, pace);
         }
-        self.rest.is_none() && self.hear(the)
+        for number in own.saturating_add(1)..passers {
+            if let Some(made) = self.fork_to(the, number, pace) {
+                return Some(made);
+            }
+        }
+        None
+    }
+
+    /// Forks to this number of a ring, if it is a higher one, and free.
+    fn fork_to(&mut self, the: &TheBus<B>, number: u64, pace: Pace) -> Option<TurnReceiver<B>> {
+        let Some(tap) = &mut self.tap else {
+            return None;
+        };
+        if tap.number() < number && number < tap.passers() {
+            let made = tap.fork(&the.bus, number)?;
+            Some(self.with_tap(made, pace))
+        } else {
+            None
+        }
+    }
+
+    /// Forks on a bus that is no ring.
+    fn fork_flat(&mut self, the: &TheBus<B>, pace: Pace) -> Option<TurnReceiver<B>> {
+        let Some(tap) = &mut self.tap else {
+            return None;
+        };
+        let number = tap.number();
+        if tap.passers() == 0 {
+            let made = tap.fork(&the.bus, number)?;
+            Some(self.with_tap(made, pace))
+        } else {
+            None
+        }
     }
 
     /// Leaves for good.
-    fn leave(&mut self, the: &TheBus<B>) {
+    pub fn leave(&mut self, the: &TheBus<B>) {
         if let Some(tap) = self.tap.take() {
             tap.leave(&the.bus);
         }
-        self.rest = Some(Rest::Left);
     }
 
-    /// A turn of its receiver. Says whether nothing was found.
-    fn hear(&mut self, the: &TheBus<B>) -> bool {
+    /// It has not left, and was not given the end.
+    pub fn hears_on(&self) -> bool {
+        match &self.tap {
+            Some(tap) => !tap.has_ended(),
+            None => false,
+        }
+    }
+
+    /// Draws whether it takes the next turn of its worker.
+    pub fn draw(&mut self, dice: &mut Pcg32) -> bool {
+        let has_begun = self.pace.late == 0;
+        self.pace.late = self.pace.late.saturating_sub(1);
+        let is_its_turn = dice.next_u32() % self.pace.apart.max(1) == 0;
+        self.is_due = has_begun && is_its_turn && self.hears_on();
+        self.is_due
+    }
+
+    /// A turn, if it is due. Says whether nothing was found.
+    pub fn hear_if_due(&mut self, the: &TheBus<B>, notes: &mut Notes) -> bool {
+        !self.is_due || self.hear(the, notes)
+    }
+
+    /// A turn. Says whether nothing was found.
+    fn hear(&mut self, the: &TheBus<B>, notes: &mut Notes) -> bool {
         let turn = match &mut self.tap {
             Some(tap) => tap.turn(&the.bus),
             None => return true,
         };
-        self.is_sound &= self.heard.note(&turn);
+        notes.is_sound &= self.heard.note(&turn);
         let is_idle = turn == RecvTurn::Empty;
-        self.take_in(turn);
-        self.gait.patience.note(is_idle);
+        self.take_in(turn, notes);
         is_idle
     }
 
     /// Goes by the answer of a turn.
-    fn take_in(&mut self, turn: RecvTurn) {
+    fn take_in(&mut self, turn: RecvTurn, notes: &mut Notes) {
         match turn {
-            RecvTurn::Item(item) => self.is_sound &= self.items.push(item).is_ok(),
+            RecvTurn::Item(item) => {
+                notes.take_item(self.tally.items, item);
+                self.tally.items = self.tally.items.saturating_add(1);
+            }
             RecvTurn::Leave(sender) => {
-                let behind = self.items.len() as u64;
-                self.is_sound &= self.left.push((sender, behind)).is_ok();
+                notes.take_mark(self.tally.marks, (sender, self.tally.items as u64));
+                self.tally.marks = self.tally.marks.saturating_add(1);
             }
-            RecvTurn::End => self.rest = Some(Rest::Done),
-            RecvTurn::Going if self.has_just_passed() => {
-                self.passed = (self.items.len(), self.left.len());
-            }
-            RecvTurn::Empty | RecvTurn::Going | RecvTurn::Head { .. } => {}
+            RecvTurn::Going if self.has_just_passed() => self.passed = self.tally,
+            RecvTurn::Empty | RecvTurn::Going | RecvTurn::Head { .. } | RecvTurn::End => {}
         }
     }
 
@@ -157,20 +277,31 @@ impl<B: OfBus> TurnReceiver<B> {
         }
     }
 
-    /// Unless it stopped, it goes on to the end of the log.
-    pub fn catch_up(&mut self, the: &TheBus<B>) {
+    /// It goes on to the end of the log.
+    pub fn catch_up(&mut self, the: &TheBus<B>, notes: &mut Notes) {
         for _ in 0..MOST_TURNS {
-            if matches!(self.rest, Some(Rest::Stopped | Rest::Done)) || self.hear(the) {
+            if !self.hears_on() || self.hear(the, notes) {
                 return;
             }
         }
     }
 
     /// The place that it has passed; none where it has left.
-    pub fn floor(&self) -> Option<u64> {
+    pub fn floor(&self) -> Option<Passed> {
         match &self.tap {
-            Some(tap) => Some(tap.passed()),
+            Some(tap) => Some(Passed {
+                words: tap.passed(),
+                before: self.passed,
+            }),
             None => None,
+        }
+    }
+
+    /// Of a ring its number; none where it has left.
+    pub fn seat(&self) -> Option<u64> {
+        match &self.tap {
+            Some(tap) if tap.passers() > 0 => Some(tap.number()),
+            _ => None,
         }
     }
 
@@ -216,27 +347,4 @@ impl<B: OfBus> TurnReceiver<B> {
             None
         }
     }
-}
-
-/// A worker for each receiver of a sitting, in order. The first one does not leave.
-pub fn turn_receivers_of<B: OfBus>(
-    alloc: Global,
-    taps: Vec<Tap>,
-    dice: &mut Pcg32,
-    load: &Load,
-) -> Result<Vec<TurnReceiver<B>>, AllocError>
-    requires { All (λ tap. tap.table_id ≡ B.table) taps.items }
-{
-    let mut receive_workers = Vec::with_capacity(alloc, taps.len())?;
-    for tap in taps {
-        let may_leave = !receive_workers.is_empty();
-        let gait = if load.ring.is_some() {
-            Gait::cast_of_ring(dice, load.is_calm, may_leave)
-        } else {
-            Gait::cast(dice, load.is_calm)
-        };
-        let after = load.after.as_ref();
-        receive_workers.push(TurnReceiver::new(alloc, tap, gait, after)?)?;
-    }
-    Ok(receive_workers)
 }

@@ -2,7 +2,7 @@
 -- shows what it has passed, and it may pass more or leave for good.
 use Rattle.std.proofs.Common.{◌≡◌, inl, inr, ℕ, ◌<◌, ◌≤◌, Bool, true, false, cond}
 use Rattle.std.proofs.Common.{Option, Some, None, List, [], length, slice_get, slice_index}
-use Rattle.std.proofs.Common.{slice_set, take, arith, refl, sym, ◌∙◌, ap, subst}
+use Rattle.std.proofs.Common.{slice_set, take, arith, refl, sym, ◌∙◌, ap, subst, eq-eqb}
 use Rattle.std.specs.List.{list_any}
 use Rattle.std.proofs.lemmas.Bool.{cases_eq, cases_Bool, true≢false}
 use Rattle.std.proofs.lemmas.List.{length-append, length-set, set-get_or}
@@ -10,13 +10,14 @@ use Rattle.std.proofs.lemmas.Option.{same_Some, slice_get_within}
 use Rattle.bus_register.specs.Protocol.{Protocol}
 use Rattle.bus_register.specs.declared.limits.TheConstants.{PASSED_ALL}
 use Rattle.bus_register.specs.declared.registers.Op.{Op}
-use Rattle.bus_register.specs.declared.registers.Op.TheVariants.{Store}
+use Rattle.bus_register.specs.declared.registers.Op.TheVariants.{Store, Cas}
 use Rattle.bus_register.specs.Private.TableLaws.{get_set_same, get_set_other, here_not}
 use Rattle.bus_batch.specs.Frames.{AreFrames, frame_words, log_pieces, log_words, is_end}
 use Rattle.std.proofs.lemmas.Grind.{flat_map-append}
 use Rattle.bus_batch.proofs.Standing.{stands_between}
 use Rattle.bus_batch.specs.Reading.{IsSound, is_between}
 use Rattle.bus_deliverylog.specs.Receiving.{Receiving, leaving_by, leaving_op, with_leave}
+use Rattle.bus_deliverylog.specs.Receiving.{joining_by, joining_op}
 use Rattle.bus_presence.proofs.ReclamationKept.{lt_tells}
 use Rattle.bus_core.specs.Senders.{Sender}
 use Rattle.bus_tenure.specs.Core.{Election, Layout, log_at}
@@ -25,16 +26,16 @@ use Rattle.bus_world.proofs.FloorLaws.{place_begins}
 use Rattle.bus_world.proofs.LogLaws.{index-read, length-logged}
 use Rattle.bus_world.proofs.Serving.{Serves}
 use Rattle.bus_world.specs.Floors.{IsPasser, passed_place}
-use Rattle.bus_world.specs.Trails.{answers_joined}
 use Rattle.bus_world.specs.Turning.{words_after}
 use Rattle.bus_world.specs.World.{Gone}
 use Rattle.bus_world.specs.declared.events.Answer.TheVariants as answer
-use Rattle.bus_machine.proofs.Bases.AtNone.{flat_at_none, passes_by}
+use Rattle.bus_machine.proofs.Bases.AtNone.{flat_at_none, fork_stores, passes_by}
 use Rattle.bus_machine.proofs.Bases.CyclicTurns.{protocol_kept}
 use Rattle.bus_machine.proofs.Frames.Framed.{IsFramed}
 use Rattle.bus_machine.proofs.Bases.Leading.{Sits, two_rows, led_some}
 use Rattle.bus_machine.proofs.Tenures.Nobody.{some_nobody}
-use Rattle.bus_machine.specs.Machine.{Machine, Trails, Reached, Then, Joins, passed_by}
+use Rattle.bus_machine.specs.Machine.{Machine, Trails, Reached, Then, Joins, passed_by, Forks}
+use Rattle.bus_machine.specs.Machine.{fork_in, trails_joined}
 use Rattle.bus_automaton.proofs.Leading.{on_word}
 use Rattle.bus_automaton.proofs.Readings.{IsNamed, is_over}
 use Rattle.bus_automaton.proofs.States.{sits, framing, sizes_are, long}
@@ -436,8 +437,11 @@ module _ {E : Type 0} (X : Election E) (P : Protocol E (Unit {0}) ℕ) (x : Layo
           let first = (f.reads q has_last.last has_last.was).2 place_q last_at in
           let size = f.room in omega arith
 
+      shown_q : slice_index m.words place_q ≡ PASSED_ALL
+      shown_q = ap (slice_index m.words) (place_at q again.rows again.used) ∙ free
+
       abbrev next : Receiving
-      next = record v { passed_at = Some place_q }
+      next = fork_in m q v
 
       abbrev receivers_now : List Receiving
       receivers_now = slice_set m.receivers q next
@@ -449,39 +453,39 @@ module _ {E : Type 0} (X : Election E) (P : Protocol E (Unit {0}) ℕ) (x : Layo
       abbrev nobody : (n : ℕ) × (slice_get m.receivers n ≡ None) × (T.heard n ≡ [])
       nobody = some_nobody X m T h.reached
 
-      abbrev words_now : List ℕ
-      words_now = words_after m.words (Some (Store record { 0 = place_q } v.passed))
+      abbrev now : Machine E
+      now = record m {
+        words = words_after m.words (joining_op next);
+        receivers = receivers_now;
+      }
+
+      -- so that is done
+      abbrev done : Forks m r q true now
+      done = record {
+        maker = v;
+        there = it.there;
+        stays = it.stays;
+        up = up;
+        last = has_last.last;
+        was = has_last.was;
+        free = sym has_last.gone;
+        within = on_word m (joining_op next) (Cas record { 0 = place_q } PASSED_ALL v.passed)
+            (ap (λ o. joining_by o v.passed) at_q) low_place;
+        finds = λ place at. sym (eq-eqb (slice_index m.words place) PASSED_ALL
+            (ap (slice_index m.words) (same_Some place place_q (sym at ∙ at_q)) ∙ shown_q));
+        after = refl;
+      }
 
       pub forks : PassesIn bus z q p (Some p)
       forks = record {
-        state = record {
-          machine = record m { words = words_now; receivers = receivers_now };
-          trails = record T { heard = answers_joined (T.heard r) q nobody.0 T.heard };
-        };
+        state = record { machine = now; trails = trails_joined r q nobody.0 T };
         reached = record {
           served = h.served;
           has_rows = h.has_rows;
           layout = h.layout;
           rows_are = h.rows_are;
           bases_are = h.bases_are;
-          reached = Joins m (record m { words = words_now; receivers = receivers_now }) T q
-              nobody.0 next (T.heard r) h.reached (record {
-                last = has_last.last;
-                was = has_last.was;
-                left = has_last.gone;
-                place = place_q;
-                at = at_q;
-                own = refl;
-                within = low_place;
-                maker = r;
-                receiver = v;
-                there = it.there;
-                stays = it.stays;
-                up = up;
-                is = refl;
-                told = refl;
-                after = refl;
-              }) nobody.1 nobody.2;
+          reached = Joins m now T r q nobody.0 h.reached done nobody.1 nobody.2;
           many = length-set m.receivers q next ∙ h.many;
           rest = λ k w at stays. elim (cases_eq k q) [
             | inl e ↦ subst IsResting
@@ -497,7 +501,8 @@ module _ {E : Type 0} (X : Election E) (P : Protocol E (Unit {0}) ℕ) (x : Layo
           running = h.running;
         };
         words =
-            ap (λ i. slice_set m.words i v.passed) (place_at q again.rows again.used)
+            fork_stores m now r q done place_q at_q
+            ∙ ap (λ i. slice_set m.words i v.passed) (place_at q again.rows again.used)
             ∙ ap (slice_set m.words (passed_word (table_layout_by x reuse) q)) it.passed;
         home = refl;
         senders = λ k. refl;

@@ -60,6 +60,6 @@ nobody_did X P m T s (Then w v U e a r h) q past =
     let before = sits_before X P w v e a h s in
     let many = subst (λ (x : Layout). x.senders ≤ q) (event_reuse X w v e a h).0 past in
     adds_none X P w U before r q many e a v h ∙ nobody_did X P w U before r q many
-nobody_did X P m T s (Joins w v U j n next told r h nobody silent) q past =
-    nobody_did X P w U (sits_unforked X P w v U.heard j next told h s) r q
-    (subst (λ (x : Layout). x.senders ≤ q) (forks_reuse X w v U.heard j next told h).0 past)
+nobody_did X P m T s (Joins w v U i j n r h nobody silent) q past =
+    nobody_did X P w U (sits_unforked X P w v i j h s) r q
+    (subst (λ (x : Layout). x.senders ≤ q) (forks_reuse X w v i j h).0 past)

@@ -98,6 +98,21 @@ leaving_by (Some at) = Some (Store (record { 0 = at }) PASSED_ALL)
 abbrev pub leaving_op : Receiving → Option Op
 leaving_op r = leaving_by r.passed_at
 
+-- With its first step one that joins shows in its passed place what it has passed: a
+-- compare_exchange from 2^64 - 1, which stands there where nobody has its number. Without a passed
+-- place it takes no step.
+abbrev pub joining_by : Option ℕ → ℕ → Option Op
+joining_by None passed = None
+joining_by (Some at) passed = Some (Cas (record { 0 = at }) PASSED_ALL passed)
+
+abbrev pub joining_op : Receiving → Option Op
+joining_op r = joining_by r.passed_at r.passed
+
+-- what a receiver with this passed place is, which a receiver has made that is v: just what that
+-- is, but for its passed place
+abbrev pub forked_at : Option ℕ → Receiving → Receiving
+forked_at at v = record v { passed_at = at }
+
 -- a word that is none of a log of so many words, nor the one that has its length
 pub record LiesApart (log_at length_at log_words at : ℕ) : Type 0 where
   pub log : (place : ℕ) → place < log_words → at ≢ log_at + place

@@ -242,7 +242,7 @@ impl Model for Reader {
 impl Reader {
     ghost use Rattle.bus_deliverylog.specs.Receiving.{due_kind, due_op, receiving_op, reading_of};
     ghost use Rattle.bus_deliverylog.specs.Receiving.{leaving_op, with_leave, LiesApart};
-    ghost use Rattle.bus_deliverylog.specs.Receiving.{WritesApart};
+    ghost use Rattle.bus_deliverylog.specs.Receiving.{joining_op, forked_at, WritesApart};
     ghost use Rattle.bus_deliverylog.specs.Receiving.{with_reading, HasReceived, passing_due};
     ghost use Rattle.bus_deliverylog.specs.Receiving.{TakesLength, TakesNext, TakesPassed};
 
@@ -320,6 +320,37 @@ impl Reader {
         match self.passed_at {
             None => None,
             Some(at) => Some(Op::Store(Reg(at), PASSED_ALL)),
+        }
+    }
+
+    /// Another receiver, which is just what this one is, but that it has the passed place of a
+    /// receiver of the same log. It has taken no step, and this one goes on as before.
+    pub fn forked(&self, other: &Reader) -> Reader
+        requires log { (other.now.log_at ≡ self.now.log_at)
+            × (other.now.length_at ≡ self.now.length_at)
+            × (other.now.log_words ≡ self.now.log_words) }
+        requires both { other.now.passed_at ≡ None → self.now.passed_at ≡ None }
+        ensures { result ≡ forked_at other.now.passed_at self.now }
+    {
+        Reader {
+            log: self.log,
+            length: self.length,
+            words: self.words,
+            passed_at: other.passed_at,
+            passed: self.passed,
+            gone: self.gone,
+            reader: self.reader.copied(),
+        }
+    }
+
+    /// The step with which one that was made joins: where its passed place shows 2^64 - 1 it stores
+    /// there what it has passed. None where it has no such place.
+    pub fn joining(&self) -> Option<Op>
+        ensures { result ≡ joining_op self.now }
+    {
+        match self.passed_at {
+            None => None,
+            Some(at) => Some(Op::Cas(Reg(at), PASSED_ALL, self.passed)),
         }
     }
 

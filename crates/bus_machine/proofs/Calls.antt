@@ -7,6 +7,8 @@ pub mod Held
 pub mod Holding
 -- What the calls of a program say of each event, by what it holds.
 pub mod Events
+-- What a fork does, and what it keeps, by what a machine holds.
+pub mod Forking
 -- A turn in its three parts: the page comes home, the step is taken, the page is laid.
 pub mod TurnLaws
 -- Events that are played one after another, and what is said of all of them.

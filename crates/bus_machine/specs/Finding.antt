@@ -1,11 +1,9 @@
 -- What a sender has found in passed places since it took a page, which of them it loads next, and
 -- what stood there when it loaded them.
-use Rattle.std.specs.Prelude.{◌≡◌, ℕ, Some, None, List, [], ◌∷◌, ◌++◌, length, slice_get}
+use Rattle.std.specs.Prelude.{◌≡◌, ℕ, true, Some, None, List, [], ◌∷◌, ◌++◌, length, slice_get}
 use Rattle.std.specs.Prelude.{slice_index}
 use Rattle.bus_core.specs.Senders.{Sender}
 use Rattle.bus_core.specs.Table.{line_now}
-use Rattle.bus_deliverylog.specs.Receiving.{Receiving}
-use Rattle.bus_deliverylog.specs.declared.receiving.RecvTurn.{RecvTurn}
 use Rattle.bus_register.specs.declared.kinds.Kind.TheVariants as kind
 use Rattle.bus_register.specs.declared.registers.Op.TheVariants.{Load}
 use Rattle.bus_tenure.specs.Core.{Election}
@@ -13,7 +11,7 @@ use Rattle.bus_tenure.specs.declared.turns.Turn.TheVariants as turn
 use Rattle.bus_world.specs.Headline.{Action, HasPut, HasMarked, Stepped}
 use Rattle.bus_world.specs.World.{Event}
 use Rattle.bus_world.specs.declared.events.Answer.{Answer}
-use Rattle.bus_machine.specs.Machine.{Machine, Trails, Reached, Happens, JoinsAs, passed_by}
+use Rattle.bus_machine.specs.Machine.{Machine, Trails, Reached, Happens, Forks, passed_by}
 
 -- what a sender has found in passed places since it took a page last, by these actions behind those
 -- that found these
@@ -44,8 +42,8 @@ pub data LeadsOn {E : Type 0} (X : Election E) (m : Machine E) : Machine E → T
   Here : LeadsOn X m m
   After : (b b' : Machine E) (e : Event) (a : Answer) → LeadsOn X m b → Happens X b e a b'
       → LeadsOn X m b'
-  AfterJoin : (b b' : Machine E) (T : Trails) (j : ℕ) (next : Receiving) (before : List RecvTurn)
-      → LeadsOn X m b → Reached X b T → JoinsAs b T.heard j next before b' → LeadsOn X m b'
+  AfterJoin : (b b' : Machine E) (i j : ℕ) → LeadsOn X m b → Forks b i j true b'
+      → LeadsOn X m b'
 
 -- With one of these actions of sender s, a step in this tenure, it loaded the passed place of the
 -- number r, and found what stood there, which is n: in an earlier machine, from which events and

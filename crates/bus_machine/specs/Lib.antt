@@ -10,6 +10,7 @@ pub mod Playing
 pub mod Turning
 pub mod Stopping
 pub mod Leaves
+pub mod Forking
 pub mod Refusals
 pub mod PromiseRefusals
 pub mod LogRefusals

@@ -4,15 +4,15 @@ use Rattle.std.specs.Prelude.{◌≡◌, ◌⊎◌, ℕ, ◌+◌, ◌-◌, ◌*�
 use Rattle.std.specs.Prelude.{Some}
 use Rattle.std.specs.Prelude.{None, List, nat_lt}
 use Rattle.std.specs.Prelude.{[], ◌∷◌, ◌++◌, All, drop, length, slice_get, slice_index, slice_set}
-use Rattle.std.specs.Prelude.{replicate, if◌then◌else◌}
+use Rattle.std.specs.Prelude.{replicate, if◌then◌else◌, ◌==◌}
 use Rattle.bus_register.specs.declared.limits.TheConstants.{PASSED_ALL}
 use Rattle.bus_register.specs.declared.registers.Op.{Op}
-use Rattle.bus_register.specs.declared.registers.Op.TheVariants.{Store}
 use Rattle.bus_register.specs.Words.{register}
 use Rattle.bus_batch.specs.Batches.{next_of, CanPut, CanClose}
 use Rattle.bus_batch.specs.declared.batches.Phase.TheVariants.{Marking}
 use Rattle.bus_batch.specs.declared.messages.Mark.{Mark}
 use Rattle.bus_deliverylog.specs.Receiving.{Receiving, with_leave, receiving_op, leaving_op}
+use Rattle.bus_deliverylog.specs.Receiving.{joining_op, forked_at}
 use Rattle.bus_deliverylog.specs.declared.receiving.RecvTurn.{RecvTurn}
 use Rattle.bus_presence.specs.Reclamation.{Trails as Entries, no_trails, trails_with_entry}
 use Rattle.bus_tenure.specs.Core.{Election, Layout, log_at, stage_at}
@@ -257,29 +257,31 @@ pub record LeavesForGood {E : Type 0} (old : Machine E) (r : ℕ) (a : Answer) (
   }
 
 -- ---- a receiver joins
--- One that has not left forks to a higher number, whose receiver has left: by one step on the
--- passed place of that number, which shows from then on what the maker has passed. The new one is
--- what its maker is, but for its passed place, and counts as given to it what was given to its
--- maker.
-pub record JoinsAs {E : Type 0} (old : Machine E) (heard : ℕ → List RecvTurn) (j : ℕ)
-    (next : Receiving) (before : List RecvTurn) (new : Machine E) : Type 0 where
-  pub maker : ℕ
-  pub receiver : Receiving
-  pub there : slice_get old.receivers maker ≡ Some receiver
-  pub stays : receiver.gone ≡ false
-  pub up : maker < j
+-- what receiver j is from then on that a receiver has made which is v
+abbrev pub fork_in : {E : Type 0} → Machine E → ℕ → Receiving → Receiving
+fork_in b j v = forked_at (passed_by b.layout b.reuse j) v
+
+-- Receiver i, which has not left, forks to a higher number j, and `did` says whether that is done.
+-- It is exactly where the last receiver of that number has left. The one step is a compare_exchange
+-- on the passed place of j, from 2^64 - 1 to what i has passed, and says the same; where there are
+-- no passed places it is none. The new one is just what its maker is, but for its passed place, and
+-- nothing else has changed.
+pub record Forks {E : Type 0} (old : Machine E) (i j : ℕ) (did : Bool) (new : Machine E) :
+    Type 0 where
+  pub maker : Receiving
+  pub there : slice_get old.receivers i ≡ Some maker
+  pub stays : maker.gone ≡ false
+  pub up : i < j
   pub last : Receiving
   pub was : slice_get old.receivers j ≡ Some last
-  pub left : last.gone ≡ true
-  pub place : ℕ
-  pub at : passed_by old.layout old.reuse j ≡ Some place
-  pub own : next.passed_at ≡ Some place
-  pub is : next ≡ record receiver { passed_at = next.passed_at }
-  pub told : before ≡ heard maker
-  pub within : IsOnWord old (Some (Store record { 0 = place } next.passed))
+  pub free : did ≡ last.gone
+  pub within : IsOnWord old (joining_op (fork_in old j maker))
+  pub finds : (place : ℕ) → passed_by old.layout old.reuse j ≡ Some place
+      → did ≡ (slice_index old.words place == PASSED_ALL)
   pub after : new ≡ record old {
-    words = words_after old.words (Some (Store record { 0 = place } next.passed));
-    receivers = slice_set old.receivers j next;
+    words = words_after old.words (joining_op (fork_in old j maker));
+    receivers =
+        if did then slice_set old.receivers j (fork_in old j maker) else old.receivers;
   }
 
 -- Event e happens, a is its answer, and new is what is left. Nothing is assumed of who is
@@ -414,13 +416,17 @@ pub record IsNew {E : Type 0} (b : Machine E) : Type 0 where
   pub stopped : b.stopped ≡ no_stops
   pub owners : b.owners ≡ []
 
+-- What a receiver that joins adds, as i forks to j and n is a number of nobody: what was given to
+-- its maker counts as given to it, and what the last one of its number was given stands with n.
+abbrev pub trails_joined : (i j n : ℕ) → Trails → Trails
+trails_joined i j n T = record T { heard = answers_joined (T.heard i) j n T.heard }
+
 -- These trails lead to this machine, from a new one, by one event after another, and by receivers
--- that join. What the one before it was given stands then with a number n of nobody.
+-- that join.
 pub data Reached {E : Type 0} (X : Election E) : Machine E → Trails → Type 0 where
   New : (b : Machine E) → IsNew b → Reached X b no_machine_trails
   Then : (b b' : Machine E) (T : Trails) (e : Event) (a : Answer) → Reached X b T
       → Happens X b e a b' → Reached X b' (trails_grown X b e a T)
-  Joins : (b b' : Machine E) (T : Trails) (j n : ℕ) (next : Receiving) (before : List RecvTurn)
-      → Reached X b T → JoinsAs b T.heard j next before b'
+  Joins : (b b' : Machine E) (T : Trails) (i j n : ℕ) → Reached X b T → Forks b i j true b'
       → slice_get b.receivers n ≡ None → T.heard n ≡ []
-      → Reached X b' (record T { heard = answers_joined before j n T.heard })
+      → Reached X b' (trails_joined i j n T)

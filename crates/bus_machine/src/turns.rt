@@ -1,7 +1,7 @@
 //! One turn of one sender on what all share.
 
-ghost use Rattle.std.specs.Prelude.{◌≡◌, ◌≤◌, ◌<◌, ℕ, length, map, slice_index};
-ghost use Rattle.std.specs.Prelude.{IfSome, IsSome, Some, IfOk, IfErr, OnOk, OnErr};
+ghost use Rattle.std.specs.Prelude.{◌≡◌, ◌≤◌, ◌<◌, ◌==◌, ℕ, length, map, slice_index};
+ghost use Rattle.std.specs.Prelude.{IfSome, IsSome, Some, None, IfOk, IfErr, OnOk, OnErr};
 ghost use Rattle.bus_register.specs.declared.registers.Op.{Op};
 ghost use Rattle.bus_register.specs.Words.{register, SumFits};
 ghost use Rattle.bus_batch.specs.Batches.{next_of};
@@ -11,7 +11,7 @@ ghost use Rattle.bus_tenure.specs.Situations.{Elects, situation_of};
 ghost use Rattle.bus_core.specs.Keeping.{core_without};
 ghost use Rattle.bus_core.specs.Senders.{words_all};
 ghost use Rattle.bus_core.specs.Table.{line_now};
-ghost use Rattle.bus_deliverylog.specs.Receiving.{leaving_op, with_leave};
+ghost use Rattle.bus_deliverylog.specs.Receiving.{leaving_op, joining_op, with_leave};
 ghost use Rattle.bus_world.specs.Turning.{home_moved, before_step, laying, owners_by};
 ghost use Rattle.bus_world.specs.Turning.{words_after};
 ghost use Rattle.bus_machine.specs.Machine.{moved, owners_told, last_of};
@@ -24,7 +24,7 @@ use bus_adoptcommit::Ratifier;
 use bus_batch::Mark;
 use bus_core::SenderCore;
 use bus_deliverylog::Reader;
-use bus_register::limits::{MOST_ROWS, NUMBERS};
+use bus_register::limits::{MOST_ROWS, NUMBERS, PASSED_ALL};
 use bus_register::{Cells, SenderNo};
 use bus_tenure::{OwnedPage, Turn};
 use bus_world::StepFault;
@@ -116,6 +116,21 @@ pub fn leave_for_good(cells: &mut Cells, reader: &mut Reader)
         let _ = cells.apply(op);
     }
     reader.leave();
+}
+
+/// The step with which a receiver joins that was made, if it has one, and whether it has joined:
+/// where its passed place showed 2^64 - 1, and without one where the last of its number has left.
+pub fn join_in_place(cells: &mut Cells, made: &Reader, last: &Reader) -> bool
+    requires within { IfSome (joining_op made.now) (λ o. register o < length cells.old) }
+    ensures words { cells.new ≡ words_after cells.old (joining_op made.now) }
+    ensures found { (o : Op) → joining_op made.now ≡ Some o
+        → result ≡ (slice_index cells.old (register o) == PASSED_ALL) }
+    ensures alone { joining_op made.now ≡ None → result ≡ last.now.gone }
+{
+    match made.joining() {
+        None => last.has_left(),
+        Some(op) => cells.apply(op) == PASSED_ALL,
+    }
 }
 
 /// A message goes into the batch of a sender, or is refused.

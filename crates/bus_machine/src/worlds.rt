@@ -1,6 +1,6 @@
 //! A bus that plays events, with a row of words for each tenure or with rows that are used again.
 
-ghost use Rattle.std.specs.Prelude.{◌≡◌, ◌⊎◌, ℕ, ◌<◌, ◌≤◌, false, length, map, slice_get};
+ghost use Rattle.std.specs.Prelude.{◌≡◌, ◌⊎◌, ℕ, ◌<◌, ◌≤◌, true, false, length, map, slice_get};
 ghost use Rattle.std.specs.Prelude.{List, Some, None};
 ghost use Rattle.std.specs.Prelude.{IfOk, IfErr, OnOk, OnErr};
 ghost use Rattle.std.specs.Option.{option_copied};
@@ -12,14 +12,15 @@ ghost use Rattle.bus_tenure.specs.Elections.{election_of};
 ghost use Rattle.bus_world.specs.declared.events.Answer.TheVariants as answer;
 ghost use Rattle.bus_world.specs.Headline.{order_given};
 ghost use Rattle.bus_batch.specs.declared.messages.Mark.TheVariants.{End, Leave};
-ghost use Rattle.bus_world.specs.Playing.{event_told, asked_answer};
+ghost use Rattle.bus_world.specs.Playing.{event_told, asked_answer, ForkRefused};
 ghost use Rattle.bus_world.specs.World.{no_bases, Put, Ask, Turn as SenderTurn, Recv, Stop};
 ghost use Rattle.bus_world.specs.World.{Gone};
 ghost use Rattle.bus_ownerbits.specs.Sizes.{election_bound};
 ghost use Rattle.bus_machine.specs.Bounding.{AreBounded, PinsAreBounded};
+ghost use Rattle.bus_machine.specs.Forking.{KeepsForked};
 ghost use Rattle.bus_machine.specs.Giving.{StillGiven};
 ghost use Rattle.bus_machine.specs.Machine.{Trails, Reached, Happens, has_stopped, log_of};
-ghost use Rattle.bus_machine.specs.Machine.{floor_of};
+ghost use Rattle.bus_machine.specs.Machine.{Forks, floor_of};
 ghost use Rattle.bus_machine.specs.Playing.{IsMade, IsMadeWith, MakeRefused, ShapeOf, Answers};
 ghost use Rattle.bus_machine.specs.Playing.{MayGoOn, Refused, RefusedWith};
 ghost use Rattle.bus_machine.specs.Playing.{AfterRefused, IsFollowed, MakeRefusedAfter, MayFollow};
@@ -31,7 +32,7 @@ ghost use Rattle.bus_machine.specs.Telling.{Causes, Says, LossesAreSeen};
 use crate::logs::{behind, copy_ring, first_passed, least_passed};
 use crate::shapes::{fault_of, first_numbers, log_word};
 use crate::starts::new_senders;
-use crate::turns::{leave_for_good, mark_to, note_owner, put_to, turn_sender};
+use crate::turns::{join_in_place, leave_for_good, mark_to, note_owner, put_to, turn_sender};
 use arrayvec::ArrayVec;
 use bus_adoptcommit::Ratifier;
 use bus_batch::Mark;
@@ -220,6 +221,26 @@ impl<Q: Ratifier + Drop> World<Q> {
         Ok(())
     }
 
+    /// Wants two receivers, the second of which has the higher number, and the first of which has
+    /// not left for good.
+    fn may_fork(&self, receiver: u64, number: u64) -> Result<(), StepFault>
+        ensures there { OnOk result (number < length self.now.receivers) }
+        ensures up { OnOk result (receiver < number) }
+        ensures stays { OnOk result ((reader : Receiving)
+            → slice_get self.now.receivers receiver ≡ Some reader → reader.gone ≡ false) }
+        ensures fault { IfErr result (ForkRefused (slice_get self.now.receivers receiver)
+            (slice_get self.now.receivers number) receiver number) }
+    {
+        let many = self.receivers.len() as u64;
+        if receiver >= many || number >= many {
+            return Err(StepFault::NoSuchReceiver);
+        }
+        if number <= receiver {
+            return Err(StepFault::NotAbove);
+        }
+        self.listens(receiver)
+    }
+
     /// A message is put into the batch of a sender.
     fn put_at(&mut self, sender: u64, bytes: &[u8]) -> Result<u64, StepFault>
         ensures happens { let X = election_of Q.Ratifier in
@@ -301,6 +322,25 @@ impl<Q: Ratifier + Drop> World<Q> {
         Ok(())
     }
 
+    /// A receiver forks to a higher number, where that is free.
+    fn fork_at(&mut self, receiver: u64, number: u64) -> Result<bool, StepFault>
+        ensures forked { IfOk result (λ did. Forks self.old receiver number did self.new) }
+        ensures refused { IfErr result (λ why. ForkRefused (slice_get self.old.receivers receiver)
+            (slice_get self.old.receivers number) receiver number why
+            × (self.new ≡ self.old)) }
+    {
+        election_is_lawful::<Q>();
+        self.may_fork(receiver, number)?;
+        let last = &self.receivers[number as usize];
+        let made = self.receivers[receiver as usize].forked(last);
+        if join_in_place(&mut self.cells, &made, last) {
+            self.receivers[number as usize] = made;
+            Ok(true)
+        } else {
+            Ok(false)
+        }
+    }
+
     /// A message is put into the batch of a sender, and gets this number. While the sender pins a
     /// tenure of rows that are used again this is refused as Busy, or as Closed once it has closed
     /// or left. Takes no memory.
@@ -368,6 +408,26 @@ impl<Q: Ratifier + Drop> World<Q> {
         election_is_lawful::<Q>();
         let _ = &self.shape;
         self.gone_at(receiver)
+    }
+
+    /// Receiver `receiver` forks to a higher number, and the answer says whether it has: it has
+    /// exactly where the last receiver of that number has left. Then one stands there that is just
+    /// what its maker is, but for its passed place, and is given what that will be given. Else
+    /// nothing has changed. Where words of the log are used again it is one step, a
+    /// compare_exchange on the passed place of that number, and else none. Takes no memory.
+    pub fn fork(&mut self, receiver: u64, number: u64) -> Result<bool, StepFault>
+        ensures forked { IfOk result (λ did. Forks self.old receiver number did self.new) }
+        ensures taken { result ≡ Ok false → self.new ≡ self.old }
+        ensures keeps { let X = election_of Q.Ratifier in
+            result ≡ Ok true → (T : Trails) → Reached X self.old T
+            → KeepsForked X self.old T receiver number self.new }
+        ensures refused { IfErr result (λ why. ForkRefused (slice_get self.old.receivers receiver)
+            (slice_get self.old.receivers number) receiver number why
+            × (self.new ≡ self.old)) }
+    {
+        election_is_lawful::<Q>();
+        let _ = &self.shape;
+        self.fork_at(receiver, number)
     }
 
     /// What happens next, and its answer.

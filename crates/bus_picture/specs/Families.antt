@@ -24,15 +24,17 @@ stores =
     ∷ codes "ClearRow" ∷ codes "StorePassed" ∷ []
 
 abbrev pub calls : List (List ℕ)
-calls = codes "put" ∷ codes "close" ∷ codes "leave" ∷ codes "stop" ∷ codes "gone" ∷ []
+calls =
+    codes "put" ∷ codes "close" ∷ codes "leave" ∷ codes "stop" ∷ codes "gone" ∷ codes "fork" ∷ []
 
--- the family of what stands in the column of kinds, where that is a kind's name, a call's or a dash
+-- the family of what stands in the column of kinds, where that is a kind's name, a fork's, a call's
+-- or a dash
 abbrev pub family_of : List ℕ → Option Family
 family_of kind =
     if is_one_of looks kind then Some family.Look else
     (if is_one_of stores kind then Some family.Store else
     (if bytes_eq kind (codes "Vote") then Some family.Add else
-    (if bytes_eq kind (codes "Fallback") then Some family.Exchange else
+    (if is_one_of (codes "Fallback" ∷ codes "Fork" ∷ []) kind then Some family.Exchange else
     (if is_one_of (codes "TakePage" ∷ codes "GivePageBack" ∷ []) kind then Some family.Page else
     (if is_one_of calls kind then Some family.Call else
     (if bytes_eq kind (codes "-") then Some family.Nothing else None))))))

@@ -16,7 +16,8 @@ pub enum Family {
     Exchange,
     /// A step that stores the stage, and takes the page or gives it back.
     Page,
-    /// A call that takes no step: a put, a close, a leave, a stop, or a receiver that leaves.
+    /// A call that takes no step: a put, a close, a leave, a stop, or a receiver that leaves or
+    /// forks.
     Call,
     /// A turn that took no step.
     Nothing,
@@ -49,9 +50,9 @@ pub fn family_of(kind: &str) -> Option<Family>
         | "ClearRow"
         | "StorePassed" => Some(Family::Store),
         "Vote" => Some(Family::Add),
-        "Fallback" => Some(Family::Exchange),
+        "Fallback" | "Fork" => Some(Family::Exchange),
         "TakePage" | "GivePageBack" => Some(Family::Page),
-        "put" | "close" | "leave" | "stop" | "gone" => Some(Family::Call),
+        "put" | "close" | "leave" | "stop" | "gone" | "fork" => Some(Family::Call),
         "-" => Some(Family::Nothing),
         _ => None,
     }

@@ -43,7 +43,7 @@ fn is_of_replay(first: &[u8]) -> bool {
     matches!(
         str::from_utf8(first),
         Ok("shape" | "cycle" | "ring" | "put" | "close" | "turn" | "recv" | "stop")
-            | Ok("leave" | "gone")
+            | Ok("leave" | "gone" | "fork")
     )
 }
 
@@ -76,13 +76,18 @@ pub fn no_number(word: &[u8]) -> Reason<'_> {
     )
 }
 
-/// The number that a word of a line is, of which the first has place 0.
-pub fn number_at(line: &[u8], place: u64) -> Option<u64> {
+/// A word of a line, of which the first has place 0.
+pub fn word_at(line: &[u8], place: u64) -> Option<&[u8]> {
     let mut words = Words::new(line);
     for _ in 0..place {
         words.next_word()?;
     }
-    number_of(words.next_word()?)
+    words.next_word()
+}
+
+/// The number that a word of a line is, of which the first has place 0.
+pub fn number_at(line: &[u8], place: u64) -> Option<u64> {
+    number_of(word_at(line, place)?)
 }
 
 /// That a number is outside of its range, if it is.

@@ -1,6 +1,6 @@
 //! Why a script of `replay` or `trace` is refused.
 
-use crate::forms::{are_digits, number_at, numbers_of, other_input, outside, spacing_of};
+use crate::forms::{are_digits, number_at, numbers_of, other_input, outside, spacing_of, word_at};
 use crate::reasons::{Reason, Word};
 use crate::refusals::{Refusal, Spot, line_at};
 use bus_register::limits::{
@@ -11,15 +11,15 @@ use bus_script::{Lines, Words};
 
 /// The first line of a script.
 const FIRST: Reason<'static> = Reason::Note(
-    "the first line is 'shape N M R T L', 'cycle' or 'ring' in its place, with five numbers",
+    "the first line is 'shape N M R T L', 'cycle' or 'ring' in its place; 'ring' may end with S",
 );
 
 /// Turns that one line asks for, at most.
 const MOST_TURNS_A_LINE: u64 = 10_000;
 
 /// Any other.
-const LINES: &str =
-    "begins no line here: others are 'put', 'close', 'turn', 'recv', 'stop', 'leave' and 'gone'";
+const LINES: &str = "begins no line here: others are 'put', 'close', 'turn', 'recv', 'stop', \
+    'leave', 'gone' and 'fork'";
 
 /// Why this script was refused so.
 pub fn replay_reason<'a>(script: &'a [u8], refusal: Refusal<'_>) -> Option<Reason<'a>> {
@@ -47,10 +47,30 @@ fn first_reason(line: &[u8]) -> Option<Reason<'_>> {
             numbers_of(words, 5, "shape N M R T L").or(sizes_reason(line, 1, MOST_ROWS as u64))
         }
         Ok("cycle") => numbers_of(words, 5, "cycle N M R T L").or(sizes_reason(line, 2, 8)),
-        Ok("ring") => numbers_of(words, 5, "ring N M R T L").or(sizes_reason(line, 2, 8)),
-        Ok("put" | "close" | "turn" | "recv" | "stop" | "leave" | "gone") => Some(FIRST),
+        Ok("ring") => ring_numbers(line, words)
+            .or(sizes_reason(line, 2, 8))
+            .or(seats_reason(line)),
+        Ok("put" | "close" | "turn" | "recv" | "stop" | "leave" | "gone" | "fork") => Some(FIRST),
         _ => Some(other_input(first).unwrap_or(FIRST)),
     }
+}
+
+/// What is wrong with the numbers of a ring, of which a sixth says how many seats there are.
+fn ring_numbers<'a>(line: &[u8], words: Words<'a>) -> Option<Reason<'a>> {
+    match word_at(line, 6) {
+        None => numbers_of(words, 5, "ring N M R T L"),
+        Some(_) => numbers_of(words, 6, "ring N M R T L S"),
+    }
+}
+
+/// That so many seats are not served, if they are not.
+fn seats_reason(line: &[u8]) -> Option<Reason<'static>> {
+    outside(
+        "the number S of seats",
+        number_at(line, 6)?,
+        number_at(line, 2)?,
+        MOST_RECEIVERS,
+    )
 }
 
 /// The first size of a line that is not served, where so many rows are at least and at most.
@@ -84,7 +104,10 @@ fn named_reason<'a>(line: &'a [u8], name: &[u8], first: &[u8]) -> Option<Reason<
     match str::from_utf8(name).ok()? {
         "BadLine" => line_reason(line),
         "NoSuchSender" => none_such("sender", line, number_at(first, 1)?),
-        "NoSuchReceiver" => none_such("receiver", line, number_at(first, 2)?),
+        "NoSuchReceiver" => match number_at(first, 6) {
+            None => none_such("receiver", line, number_at(first, 2)?),
+            Some(seats) => none_such("seat", line, seats),
+        },
         "TooLong" => outside(
             "the length of the message in bytes",
             length_of(line)?,
@@ -95,13 +118,15 @@ fn named_reason<'a>(line: &'a [u8], name: &[u8], first: &[u8]) -> Option<Reason<
     }
 }
 
-/// That the process of this line is not there.
+/// That the process of this line is not there; of a fork it may be the second that is not.
 fn none_such(what: &'static str, line: &[u8], count: u64) -> Option<Reason<'static>> {
-    Some(Reason::NoneSuch {
-        what,
-        found: number_at(line, 1)?,
-        count,
-    })
+    let first = number_at(line, 1)?;
+    let found = if first < count {
+        number_at(line, 2)?
+    } else {
+        first
+    };
+    Some(Reason::NoneSuch { what, found, count })
 }
 
 /// How many bytes the message of a put has.
@@ -116,7 +141,8 @@ fn length_of(line: &[u8]) -> Option<u64> {
 fn state_note(name: &str) -> Option<&'static str> {
     match name {
         "Stopped" => Some("the sender has stopped: from then on each line of it is refused"),
-        "Gone" => Some("the receiver has left for good: from then on each line of it is refused"),
+        "Gone" => Some("nobody has this number: its receiver has left, or none has taken it yet"),
+        "NotAbove" => Some("a receiver forks to a number above its own, and to no other"),
         "Closed" => Some("the sender has closed or left, or its order has ended: it takes no more"),
         "Busy" => Some("the sender's batch is on its way: take turns until 'delivered'"),
         "BatchFull" => Some("16 messages wait at the sender, and no more can: take turns first"),
@@ -140,6 +166,7 @@ fn line_reason(line: &[u8]) -> Option<Reason<'_>> {
         Ok("stop") => numbers_of(words, 1, "stop S"),
         Ok("leave") => numbers_of(words, 1, "leave S"),
         Ok("gone") => numbers_of(words, 1, "gone M"),
+        Ok("fork") => numbers_of(words, 2, "fork I J"),
         Ok("turn") => numbers_of(words, 3, "turn S W K").or(turn_reason(line)),
         Ok("recv") => numbers_of(words, 2, "recv M K").or(times_reason(line, 2)),
         Ok("shape" | "cycle" | "ring") => Some(Reason::Note(

@@ -69,14 +69,14 @@ copied words at capacity first place w old mid new le so_far is pushed =
 
 -- ---- answers
 -- so many items, and whether the end
-abbrev counted : ℕ → Bool → Given
-counted n ends = record { items = n; ended = ends }
+abbrev counted : Bool → ℕ → Bool → Given
+counted taken n ends = record { taken = taken; items = n; ended = ends }
 
-answer_more : (trail : List RecvTurn) (t : RecvTurn) (n : ℕ) (ends : Bool)
+answer_more : (taken : Bool) (trail : List RecvTurn) (t : RecvTurn) (n : ℕ) (ends : Bool)
     → length (items_in (flat_map entry_heard (t ∷ []))) ≡ n → list_any end_heard (t ∷ []) ≡ ends
-    → given_of (trail ++ t ∷ [])
-    ≡ counted ((given_of trail).items + n) ((given_of trail).ended || ends)
-answer_more trail t n ends many is =
+    → given_of taken (trail ++ t ∷ [])
+    ≡ counted taken ((given_of taken trail).items + n) ((given_of taken trail).ended || ends)
+answer_more taken trail t n ends many is =
     let entries : List Entry = flat_map entry_heard trail in
     let one : List Entry = flat_map entry_heard (t ∷ []) in
     let items_are : length (items_in (flat_map entry_heard (trail ++ t ∷ [])))
@@ -85,43 +85,44 @@ answer_more trail t n ends many is =
     ∙ ap length (flat_map-append item_in entries one)
     ∙ length-append (items_in entries) (items_in one)
     ∙ ap (λ (k : ℕ). length (items_in entries) + k) many in
-    ap (λ (k : ℕ). counted k (list_any end_heard (trail ++ t ∷ []))) items_are
-    ∙ ap (counted (length (items_in entries) + n))
+    ap (λ (k : ℕ). counted taken k (list_any end_heard (trail ++ t ∷ []))) items_are
+    ∙ ap (counted taken (length (items_in entries) + n))
     (list_any-append end_heard trail (t ∷ [])
     ∙ ap (λ (b : Bool). list_any end_heard trail || b) is)
 
 -- an answer that gives nothing
-quiet : (trail : List RecvTurn) (t : RecvTurn)
+quiet : (taken : Bool) (trail : List RecvTurn) (t : RecvTurn)
     → length (items_in (flat_map entry_heard (t ∷ []))) ≡ 0 → list_any end_heard (t ∷ []) ≡ false
-    → given_of (trail ++ t ∷ []) ≡ given_of trail
-quiet trail t none goes =
-    let g : Given = given_of trail in
-    answer_more trail t 0 false none goes
-    ∙ ap (λ (k : ℕ). counted k (g.ended || false))
+    → given_of taken (trail ++ t ∷ []) ≡ given_of taken trail
+quiet taken trail t none goes =
+    let g : Given = given_of taken trail in
+    answer_more taken trail t 0 false none goes
+    ∙ ap (λ (k : ℕ). counted taken k (g.ended || false))
     (let same : g.items + 0 ≡ g.items = omega arith in same)
-    ∙ ap (counted g.items) (or-false g.ended)
+    ∙ ap (counted taken g.items) (or-false g.ended)
 
 or-true : (b : Bool) → (b || true) ≡ true
 or-true true = refl
 or-true false = refl
 
 -- with one answer more
-pub given_more : (t : RecvTurn) (trail : List RecvTurn)
-    → given_of (trail ++ t ∷ []) ≡ given_with t (given_of trail)
-given_more recv.Going trail = quiet trail recv.Going refl refl
-given_more recv.Empty trail = quiet trail recv.Empty refl refl
-given_more (recv.Head tenure owner) trail = quiet trail (recv.Head tenure owner) refl refl
-given_more (recv.Item item) trail =
-    let g : Given = given_of trail in
-    answer_more trail (recv.Item item) 1 false refl refl
-    ∙ ap (counted (g.items + 1)) (or-false g.ended)
-given_more (recv.Leave sender) trail = quiet trail (recv.Leave sender) refl refl
-given_more recv.End trail =
-    let g : Given = given_of trail in
-    answer_more trail recv.End 0 true refl refl
-    ∙ ap (λ (k : ℕ). counted k (g.ended || true))
+pub given_more : (t : RecvTurn) (taken : Bool) (trail : List RecvTurn)
+    → given_of taken (trail ++ t ∷ []) ≡ given_with t (given_of taken trail)
+given_more recv.Going taken trail = quiet taken trail recv.Going refl refl
+given_more recv.Empty taken trail = quiet taken trail recv.Empty refl refl
+given_more (recv.Head tenure owner) taken trail =
+    quiet taken trail (recv.Head tenure owner) refl refl
+given_more (recv.Item item) taken trail =
+    let g : Given = given_of taken trail in
+    answer_more taken trail (recv.Item item) 1 false refl refl
+    ∙ ap (counted taken (g.items + 1)) (or-false g.ended)
+given_more (recv.Leave sender) taken trail = quiet taken trail (recv.Leave sender) refl refl
+given_more recv.End taken trail =
+    let g : Given = given_of taken trail in
+    answer_more taken trail recv.End 0 true refl refl
+    ∙ ap (λ (k : ℕ). counted taken k (g.ended || true))
     (let same : g.items + 0 ≡ g.items = omega arith in same)
-    ∙ ap (counted g.items) (or-true g.ended)
+    ∙ ap (counted taken g.items) (or-true g.ended)
 
 -- it joins the trail of its receiver, and of no other
 answered_here : (r : ℕ) (t : RecvTurn) (H : ℕ → List RecvTurn)
@@ -138,43 +139,47 @@ answered_beside r q t H ne = elim (eqb_tells q r) [
   | inr h ↦ ap (λ (b : Bool). H q ++ cond b (t ∷ []) []) h.0 ∙ append-nil (H q)
 ]
 
-heard_remembered : (h : Kept) (n r : ℕ) (t : RecvTurn) (T : Trails) → r < n → HasAllOf h n T
+heard_remembered : (h : Kept) (n r : ℕ) (t : RecvTurn) (T : Trails) (taken : ℕ → Bool) → r < n
+    → HasAllOf h n T taken
     → HasAllOf (record h {
       given = slice_set h.given r (given_with t (slice_index_or h.given r no_given));
-    }) n (record T { heard = answers_with r t T.heard })
-heard_remembered h n r t T low k = record {
+    }) n (record T { heard = answers_with r t T.heard }) taken
+heard_remembered h n r t T taken low k = record {
   log = k.log;
   many = length-set h.given r more ∙ k.many;
   given = λ q lt. elim (cases_eq q r) [
     | inl e ↦
         subst (λ p. slice_get (slice_set h.given r more) p
-        ≡ Some (given_of (answers_with r t T.heard p))) (sym e) here
+        ≡ Some (given_of (taken p) (answers_with r t T.heard p))) (sym e) here
     | inr ne ↦
         get_set_other h.given r more q ne ∙ k.given q lt
-        ∙ ap (λ (l : List RecvTurn). Some (given_of l)) (sym (answered_beside r q t T.heard ne))
+        ∙ ap (λ (l : List RecvTurn). Some (given_of (taken q) l))
+        (sym (answered_beside r q t T.heard ne))
   ];
 } where
   more : Given
   more = given_with t (slice_index_or h.given r no_given)
 
-  here : slice_get (slice_set h.given r more) r ≡ Some (given_of (answers_with r t T.heard r))
+  here :
+      slice_get (slice_set h.given r more) r
+      ≡ Some (given_of (taken r) (answers_with r t T.heard r))
   here =
       let many = k.many in
       get_set_same h.given r more (omega arith)
       ∙ ap (λ (g : Given). Some (given_with t g))
-      (get_or_from_slice_get h.given r (given_of (T.heard r)) no_given (k.given r low))
-      ∙ ap Some (sym (given_more t (T.heard r)))
-      ∙ ap (λ (l : List RecvTurn). Some (given_of l)) (sym (answered_here r t T.heard))
+      (get_or_from_slice_get h.given r (given_of (taken r) (T.heard r)) no_given (k.given r low))
+      ∙ ap Some (sym (given_more t (taken r) (T.heard r)))
+      ∙ ap (λ (l : List RecvTurn). Some (given_of (taken r) l)) (sym (answered_here r t T.heard))
 
 -- ---- trails that say the same
-carried : (h : Kept) (n n' : ℕ) (T U : Trails) → n' ≡ n → U.log ≡ T.log → U.heard ≡ T.heard
-    → HasAllOf h n T → HasAllOf h n' U
-carried h n n' T U many log heard k = record {
+carried : (h : Kept) (n n' : ℕ) (T U : Trails) (taken : ℕ → Bool) → n' ≡ n → U.log ≡ T.log
+    → U.heard ≡ T.heard → HasAllOf h n T taken → HasAllOf h n' U taken
+carried h n n' T U taken many log heard k = record {
   log = k.log ∙ sym log;
   many = k.many ∙ sym many;
   given = λ r lt.
       k.given r (subst (λ m. r < m) many lt)
-      ∙ ap (λ (H : ℕ → List RecvTurn). Some (given_of (H r))) (sym heard);
+      ∙ ap (λ (H : ℕ → List RecvTurn). Some (given_of (taken r) (H r))) (sym heard);
 }
 
 turn_hears : {E : Type 0} (z : Situation E) (l : Line E) (s got word : ℕ) (told : Answered)
@@ -241,7 +246,7 @@ module _ {E : Type 0} (X : Election E) where
   same_senders m m' (Stop s) a d = ap (λ (y : Machine E). length y.senders) d.after
   same_senders m m' (Gone r) a d = ap (λ (y : Machine E). length y.senders) d.after
 
-  same_receivers : (m m' : Machine E) (e : Event) (a : Answer) → Happens X m e a m'
+  pub same_receivers : (m m' : Machine E) (e : Event) (a : Answer) → Happens X m e a m'
       → length m'.receivers ≡ length m.receivers
   same_receivers m m' (Put s bytes) a d = ap (λ (y : Machine E). length y.receivers) d.after
   same_receivers m m' (Ask s asked) a d = ap (λ (y : Machine E). length y.receivers) d.after
@@ -276,9 +281,25 @@ module _ {E : Type 0} (X : Election E) where
   asks_one m m' (Stop s) a d = tt
   asks_one m m' (Gone r) a d = tt
 
+  -- so nobody past the receivers is answered anything
+  pub quiet_past : (m m' : Machine E) (e : Event) (a : Answer) (T : Trails) (q : ℕ)
+      → Happens X m e a m' → length m.receivers ≤ q
+      → (trails_grown X m e a T).heard q ≡ T.heard q
+  quiet_past m m' (Put s bytes) a T q d past = refl
+  quiet_past m m' (Ask s asked) a T q d past = refl
+  quiet_past m m' (Turn s word) a T q d past =
+      ap (λ (H : ℕ → List RecvTurn). H q) (sender_hears X m s (going m s) word a T)
+  quiet_past m m' (Recv r) a T q d past =
+      let low = slice_get_within m.receivers r d.receiver d.there in
+      ap (λ (b : Answer). (trails_grown X m (Recv r) b T).heard q) d.answered
+      ∙ answered_beside r q d.heard T.heard (λ same. omega (arith, same))
+  quiet_past m m' (Stop s) a T q d past = refl
+  quiet_past m m' (Gone r) a T q d past = refl
+
 module _ {S : Type 0} (X : Election (Elector S)) (P : Protocol S Bool Verdict)
     (old new : Machine (Elector S)) where
-  sizes_stay : (e : Event) (a : Answer) → Happens X old e a new → HasSizes P old → HasSizes P new
+  pub sizes_stay : (e : Event) (a : Answer) → Happens X old e a new → HasSizes P old
+      → HasSizes P new
   sizes_stay e a d z =
       let i = event_reuse X old new e a d in
       record {
@@ -318,20 +339,21 @@ module _ {S : Type 0} (X : Election (Elector S)) (P : Protocol S Bool Verdict)
       ∙ sym shows.1
 
   -- the history has all that an event adds
-  remembered : (h : Kept) (T : Trails) (e : Event) (a : Answer) → Happens X old e a new
-      → HasSizes P new → h.capacity ≡ new.layout.capacity
+  remembered : (h : Kept) (T : Trails) (taken : ℕ → Bool) (e : Event) (a : Answer)
+      → Happens X old e a new → HasSizes P new → h.capacity ≡ new.layout.capacity
       → ShowsPublished new T.log (trails_grown X old e a T).log
-      → HasAllOf h (length old.receivers) T
+      → HasAllOf h (length old.receivers) T taken
       → HasAllOf (kept_after new.words e a h) (length new.receivers) (trails_grown X old e a T)
-  remembered h T (Put s bytes) a d z capacity shows k =
+      taken
+  remembered h T taken (Put s bytes) a d z capacity shows k =
       carried h (length old.receivers) (length new.receivers) T
-      (trails_grown X old (Put s bytes) a T)
+      (trails_grown X old (Put s bytes) a T) taken
       (same_receivers X old new (Put s bytes) a d) refl refl k
-  remembered h T (Ask s asked) a d z capacity shows k =
+  remembered h T taken (Ask s asked) a d z capacity shows k =
       carried h (length old.receivers) (length new.receivers) T
-      (trails_grown X old (Ask s asked) a T)
+      (trails_grown X old (Ask s asked) a T) taken
       (same_receivers X old new (Ask s asked) a d) refl refl k
-  remembered h T (Turn s word) a d z capacity shows k =
+  remembered h T taken (Turn s word) a d z capacity shows k =
       let U : Trails = trails_grown X old (Turn s word) a T in
       let heard : U.heard ≡ T.heard = sender_hears X old s (going old s) word a T in
       let many = same_receivers X old new (Turn s word) a d in
@@ -340,25 +362,25 @@ module _ {S : Type 0} (X : Election (Elector S)) (P : Protocol S Bool Verdict)
         many = k.many ∙ sym many;
         given = λ r lt.
             k.given r (subst (λ m. r < m) many lt)
-            ∙ ap (λ (H : ℕ → List RecvTurn). Some (given_of (H r))) (sym heard);
+            ∙ ap (λ (H : ℕ → List RecvTurn). Some (given_of (taken r) (H r))) (sym heard);
       }
-  remembered h T (Recv r) a d z capacity shows k =
+  remembered h T taken (Recv r) a d z capacity shows k =
       subst (λ b. HasAllOf (kept_after new.words (Recv r) b h) (length new.receivers)
-      (trails_grown X old (Recv r) b T)) (sym d.answered)
+      (trails_grown X old (Recv r) b T) taken) (sym d.answered)
       (subst (λ n. HasAllOf (kept_after new.words (Recv r) (answer.Recv d.heard) h) n
-      (trails_grown X old (Recv r) (answer.Recv d.heard) T))
+      (trails_grown X old (Recv r) (answer.Recv d.heard) T) taken)
       (sym (same_receivers X old new (Recv r) a d))
-      (heard_remembered h (length old.receivers) r d.heard T
+      (heard_remembered h (length old.receivers) r d.heard T taken
       (slice_get_within old.receivers r d.receiver d.there) k))
-  remembered h T (Stop s) a d z capacity shows k =
-      carried h (length old.receivers) (length new.receivers) T T
+  remembered h T taken (Stop s) a d z capacity shows k =
+      carried h (length old.receivers) (length new.receivers) T T taken
       (same_receivers X old new (Stop s) a d) refl refl k
-  remembered h T (Gone r) a d z capacity shows k =
-      carried h (length old.receivers) (length new.receivers) T T
+  remembered h T taken (Gone r) a d z capacity shows k =
+      carried h (length old.receivers) (length new.receivers) T T taken
       (same_receivers X old new (Gone r) a d) refl refl k
 
-  module _ (law : PublishedStands X P) (h : Kept) (T : Trails) (e : Event) (a : Answer)
-      (d : Happens X old e a new) (k : IsHistoryOf X P old h T) where
+  module _ (law : PublishedStands X P) (h : Kept) (T : Trails) (taken : ℕ → Bool) (e : Event)
+      (a : Answer) (d : Happens X old e a new) (k : IsHistoryOf X P old h T taken) where
     sizes : HasSizes P new
     sizes = sizes_stay e a d k.sizes
 
@@ -379,14 +401,15 @@ module _ {S : Type 0} (X : Election (Elector S)) (P : Protocol S Bool Verdict)
     receiver_there =
         subst (AsksOne e) (sym k.remembers.many) (asks_one X old new e a d)
 
-    pub holds_on : IsHistoryOf X P new (kept_after new.words e a h) (trails_grown X old e a T)
+    pub holds_on :
+        IsHistoryOf X P new (kept_after new.words e a h) (trails_grown X old e a T) taken
     holds_on =
         let z = k.sizes in
         record {
           reached = Then old new T e a k.reached d;
           sizes = sizes;
           capacity = kept_capacity new.words e a h ∙ capacity_is;
-          remembers = remembered h T e a d sizes capacity_is
+          remembers = remembered h T taken e a d sizes capacity_is
               (law z.senders z.rounds z.rows z.capacity z.passers z.served old T z.layout z.reuse
               k.reached e a new d) k.remembers;
         }

@@ -1,8 +1,8 @@
 -- An event that is repeated while it goes on: behind an answer with which it goes on it is not
 -- refused.
-use Rattle.std.proofs.Common.{◌≡◌, ℕ, zero, suc, ◌-◌, ◌<◌, Bool, true, false, cond, Option, Some}
-use Rattle.std.proofs.Common.{None, slice_get, slice_index, refl, sym, ap, subst, ◌∙◌, ◌⊎◌}
-use Rattle.std.proofs.Common.{inl, inr, arith}
+use Rattle.std.proofs.Common.{◌≡◌, ℕ, zero, suc, ◌-◌, ◌<◌, ◌≤◌, Bool, true, false, cond, Option}
+use Rattle.std.proofs.Common.{Some, None, length, slice_get, slice_index, refl, sym, ap, subst}
+use Rattle.std.proofs.Common.{◌∙◌, ◌⊎◌, inl, inr, arith}
 use Rattle.std.specs.Prelude.{Result, Ok, Err, IfOk, IfErr}
 use Rattle.std.proofs.lemmas.Bool.{true≢false}
 use Rattle.std.proofs.lemmas.Option.{slice_get_within}
@@ -25,6 +25,7 @@ use Rattle.bus_replay.specs.GoingOn.{goes_on}
 use Rattle.bus_replay.specs.Answers.{Repeats, repeat_trails}
 use Rattle.bus_replay.specs.Histories.{Kept, IsHistoryOf}
 use Rattle.bus_replay.specs.Told.{IsRepeated}
+use Rattle.bus_replay.proofs.HistoryLemmas.{same_receivers, quiet_past}
 
 -- ---- what a result says, where it is known
 pub when_ok : {A E : Type 0} (Q : A → Type 0) (r : Result A E) (x : A) → r ≡ Ok x → IfOk r Q → Q x
@@ -81,6 +82,27 @@ not_refused {E} X old new (Recv r) a why h goes refused =
 not_refused X old new (Stop s) a why h goes refused = stops_so a answer.Stopped h.answered refl goes
 not_refused X old new (Gone r) a why h goes refused = stops_so a answer.Gone h.answered refl goes
 
+-- ---- what stays, however often an event is repeated
+module _ {S : Type 0} (X : Election (Elector S)) (P : Protocol S Bool Verdict) (e : Event) where
+  pub repeat_many : (m : Machine (Elector S)) (more : ℕ) (last : Answer) (new : Machine (Elector S))
+      → Repeats X P m e more last new → length new.receivers ≡ length m.receivers
+  repeat_many m zero last new run = same_receivers X m new e last run.happens
+  repeat_many m (suc more) last new (inl once) = same_receivers X m new e last once.0.happens
+  repeat_many m (suc more) last new (inr run) =
+      repeat_many run.0 more last new run.4 ∙ same_receivers X m run.0 e run.1 run.2.happens
+
+  -- nobody past the receivers is answered anything
+  pub repeat_quiet : (m : Machine (Elector S)) (more : ℕ) (last : Answer)
+      (new : Machine (Elector S)) (run : Repeats X P m e more last new) (T : Trails) (q : ℕ)
+      → length m.receivers ≤ q → (repeat_trails X P m e more last new run T).heard q ≡ T.heard q
+  repeat_quiet m zero last new run T q past = quiet_past X m new e last T q run.happens past
+  repeat_quiet m (suc more) last new (inl once) T q past =
+      quiet_past X m new e last T q once.0.happens past
+  repeat_quiet m (suc more) last new (inr run) T q past =
+      let many = same_receivers X m run.0 e run.1 run.2.happens in
+      repeat_quiet run.0 more last new run.4 (trails_grown X m e run.1 T) q (omega (arith, many))
+      ∙ quiet_past X m run.0 e run.1 T q run.2.happens past
+
 -- ---- an event again and again
 module _ {S : Type 0} (X : Election (Elector S)) (P : Protocol S Bool Verdict) (e : Event)
     (old : Machine (Elector S)) (h : Kept) (all : ℕ) where
@@ -96,12 +118,12 @@ module _ {S : Type 0} (X : Election (Elector S)) (P : Protocol S Bool Verdict) (
         → (whole : Repeats X P old e all final end)
         × ((T : Trails) → repeat_trails X P old e all final end whole T
         ≡ repeat_trails X P before e left final end run (grown T))
-    pub holds : (T : Trails) → IsHistoryOf X P old h T
-        → IsHistoryOf X P new kept (trails_grown X before e last (grown T))
+    pub holds : (T : Trails) (taken : ℕ → Bool) → IsHistoryOf X P old h T taken
+        → IsHistoryOf X P new kept (trails_grown X before e last (grown T)) taken
 
   pub once : (last : Answer) (new : Machine (Elector S)) (kept : Kept) → Answers X P old e last new
-      → ((T : Trails) → IsHistoryOf X P old h T
-      → IsHistoryOf X P new kept (trails_grown X old e last T))
+      → ((T : Trails) (taken : ℕ → Bool) → IsHistoryOf X P old h T taken
+      → IsHistoryOf X P new kept (trails_grown X old e last T) taken)
       → Repeated all last new kept
   once last new kept answered noted = record {
     before = old;
@@ -114,8 +136,8 @@ module _ {S : Type 0} (X : Election (Elector S)) (P : Protocol S Bool Verdict) (
   pub once_more : (left : ℕ) (first last : Answer) (mid new : Machine (Elector S))
       (kept kept' : Kept) → Repeated left first mid kept → 0 < left → goes_on first ≡ true
       → Answers X P mid e last new
-      → ((T : Trails) → IsHistoryOf X P mid kept T
-      → IsHistoryOf X P new kept' (trails_grown X mid e last T))
+      → ((T : Trails) (taken : ℕ → Bool) → IsHistoryOf X P mid kept T taken
+      → IsHistoryOf X P new kept' (trails_grown X mid e last T) taken)
       → Repeated (left - 1) last new kept'
   once_more zero first last mid new kept kept' k some goes answered noted = absurd (omega arith)
   once_more (suc left) first last mid new kept kept' k some goes answered noted =
@@ -126,8 +148,8 @@ module _ {S : Type 0} (X : Election (Elector S)) (P : Protocol S Bool Verdict) (
         grown = λ T. trails_grown X k.before e first (k.grown T);
         from_first = λ final end r.
             k.from_first final end (inr (mid, first, k.answered, goes, r));
-        holds = λ T hold.
-            noted (trails_grown X k.before e first (k.grown T)) (k.holds T hold);
+        holds = λ T taken hold.
+            noted (trails_grown X k.before e first (k.grown T)) taken (k.holds T taken hold);
       }
 
   -- the last one, from the bus before it
@@ -139,8 +161,9 @@ module _ {S : Type 0} (X : Election (Elector S)) (P : Protocol S Bool Verdict) (
   ended left last new kept k run same =
       let whole = k.from_first last new run in (
         whole.0,
-        λ T hold.
-            subst (IsHistoryOf X P new kept) (sym (whole.1 T ∙ same (k.grown T))) (k.holds T hold),
+        λ T taken hold.
+            subst (λ U. IsHistoryOf X P new kept U taken) (sym (whole.1 T ∙ same (k.grown T)))
+            (k.holds T taken hold),
       )
 
   pub at_last : (left : ℕ) (last : Answer) (new : Machine (Elector S)) (kept : Kept)

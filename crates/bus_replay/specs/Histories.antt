@@ -1,5 +1,5 @@
 -- What a bus has published and given, as a program holds it.
-use Rattle.std.specs.Prelude.{◌≡◌, ℕ, ◌+◌, ◌-◌, ◌<◌, Bool, true, false, Some, List, ◌++◌}
+use Rattle.std.specs.Prelude.{◌≡◌, ℕ, ◌+◌, ◌-◌, ◌<◌, ◌≤◌, Bool, true, false, Some, List, [], ◌++◌}
 use Rattle.std.specs.Prelude.{length, slice_get, slice_index, slice_index_or, slice_set}
 use Rattle.bus_register.specs.Protocol.{Protocol}
 use Rattle.bus_adoptcommit.specs.declared.verdicts.Verdict.{Verdict}
@@ -17,16 +17,18 @@ use Rattle.bus_tenure.specs.Core.{Election}
 use Rattle.bus_tenure.specs.Elections.{Elector, layout_with}
 use Rattle.bus_replay.specs.declared.histories.Given.{Given}
 
--- all words that were published, and what each receiver was given
+-- All words that were published, and of each seat whether it has or had a receiver and what the
+-- last one was given.
 pub record Kept : Type 0 where
   -- how many words the log of the bus has
   pub capacity : ℕ
   pub log : List ℕ
   pub given : List Given
 
--- what a receiver was given that has these answers
-abbrev pub given_of : List RecvTurn → Given
-given_of heard = record {
+-- what a receiver was given that has these answers, if its seat has or had one
+abbrev pub given_of : (taken : Bool) → List RecvTurn → Given
+given_of taken heard = record {
+  taken = taken;
   items = length (items_in (order_given heard).entries);
   ended = (order_given heard).ended;
 }
@@ -50,7 +52,18 @@ AsksOne (Stop s) n = Unit {0}
 AsksOne (Gone r) n = Unit {0}
 
 abbrev pub no_given : Given
-no_given = record { items = 0; ended = false }
+no_given = record { taken = false; items = 0; ended = false }
+
+-- A receiver has forked to this number: what its maker was given counts as given to the new one.
+abbrev pub kept_forked : (maker number : ℕ) → Kept → Kept
+kept_forked i j h = record h {
+  given = slice_set h.given j (record (slice_index_or h.given i no_given) { taken = true });
+}
+
+-- behind a fork that was done or not
+abbrev pub kept_by_fork : (maker number : ℕ) → Bool → Kept → Kept
+kept_by_fork i j true h = kept_forked i j h
+kept_by_fork i j false h = h
 
 -- behind an event with this answer, which has left these words: what was published since is copied
 -- from its cells, and an answer to a receiver is counted
@@ -75,11 +88,18 @@ kept_after words (Recv r) answer.Gone h = h
 kept_after words (Stop s) a h = h
 kept_after words (Gone r) a h = h
 
--- these are all words and answers of these trails, of so many receivers
-pub record HasAllOf (h : Kept) (receivers : ℕ) (T : Trails) : Type 0 where
+-- these are all words and answers of these trails, of so many seats, of which these have or had a
+-- receiver
+pub record HasAllOf (h : Kept) (receivers : ℕ) (T : Trails) (taken : ℕ → Bool) : Type 0 where
   pub log : h.log ≡ T.log
   pub many : length h.given ≡ receivers
-  pub given : (r : ℕ) → r < receivers → slice_get h.given r ≡ Some (given_of (T.heard r))
+  pub given : (r : ℕ) → r < receivers
+      → slice_get h.given r ≡ Some (given_of (taken r) (T.heard r))
+
+-- receivers with these numbers, so many from this one on, were answered nothing
+abbrev pub AreNobodys : (first many : ℕ) → Trails → Type 0
+AreNobodys first many T =
+    (n : ℕ) → first ≤ n → n < first + many → T.heard n ≡ []
 
 -- A machine such as a program makes: its sizes are served, and its senders and words are so many.
 pub record HasSizes {S : Type 0} (P : Protocol S Bool Verdict) (m : Machine (Elector S)) : Type 0
@@ -96,11 +116,11 @@ pub record HasSizes {S : Type 0} (P : Protocol S Bool Verdict) (m : Machine (Ele
     pub many : length m.senders ≡ m.layout.senders
     pub words : length m.words ≡ log_place m.layout m.reuse + m.layout.capacity
 
--- These trails lead to the machine, which has such sizes, and this history has all of them. It
--- knows the size of the log.
+-- These trails lead to the machine, which has such sizes, and this history has all of them, with
+-- the seats that have or had a receiver. It knows the size of the log.
 pub record IsHistoryOf {S : Type 0} (X : Election (Elector S)) (P : Protocol S Bool Verdict)
-    (m : Machine (Elector S)) (h : Kept) (T : Trails) : Type 0 where
+    (m : Machine (Elector S)) (h : Kept) (T : Trails) (taken : ℕ → Bool) : Type 0 where
   pub reached : Reached X m T
   pub sizes : HasSizes P m
   pub capacity : h.capacity ≡ m.layout.capacity
-  pub remembers : HasAllOf h (length m.receivers) T
+  pub remembers : HasAllOf h (length m.receivers) T taken

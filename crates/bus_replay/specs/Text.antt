@@ -1,7 +1,7 @@
 -- What `replay` prints.
 use Rattle.std.specs.Prelude.{ℕ, Bool, true, false, List, [], ◌∷◌, ◌++◌, length, codes, decimal}
-use Rattle.std.specs.Prelude.{flat_map}
-use Rattle.std.specs.List.{enumerate_from}
+use Rattle.std.specs.Prelude.{flat_map, if◌then◌else◌}
+use Rattle.std.specs.List.{enumerate_from, range_with_len}
 use Rattle.bus_batch.specs.declared.batches.CloseFault.{CloseFault}
 use Rattle.bus_batch.specs.declared.batches.CloseFault.TheVariants as close
 use Rattle.bus_batch.specs.declared.batches.PutFault.{PutFault}
@@ -50,6 +50,17 @@ event_text (Gone r) = codes "gone" ++ behind r
 abbrev pub answer_line : Event → Answer → List ℕ
 answer_line e a = event_text e ++ codes ": " ++ answer_text a ++ 10 ∷ []
 
+-- ---- forks
+-- whether a receiver has forked
+abbrev pub fork_text : Bool → List ℕ
+fork_text true = codes "forked"
+fork_text false = codes "no seat"
+
+-- the line of a fork that was answered
+abbrev pub fork_line : (maker number : ℕ) → Bool → List ℕ
+fork_line i j did =
+    codes "fork" ++ behind i ++ behind j ++ codes ": " ++ fork_text did ++ 10 ∷ []
+
 -- ---- refusals
 
 abbrev pub put_fault_name : PutFault → List ℕ
@@ -70,6 +81,7 @@ step_fault_name fault.Stopped = codes "Stopped"
 step_fault_name (fault.Put why) = put_fault_name why
 step_fault_name (fault.Close why) = close_fault_name why
 step_fault_name fault.Gone = codes "Gone"
+step_fault_name fault.NotAbove = codes "NotAbove"
 
 -- want of memory is no refusal of a script, and is never printed
 abbrev pub make_fault_name : MakeFault → List ℕ
@@ -107,14 +119,20 @@ order_text q = flat_map entry_line q.entries ++ order_end q.ended
 abbrev pub count_line : ℕ → ℕ → Bool → List ℕ
 count_line r items ended = codes "given" ++ behind r ++ behind items ++ end_text ended ++ 10 ∷ []
 
--- a line for each of so many counts, in order
+-- the line of a seat, if it has or had a receiver
+abbrev pub seat_line : ℕ → Given → List ℕ
+seat_line r g = if g.taken then count_line r g.items g.ended else []
+
+-- such a line for each of so many seats, in order
 abbrev pub counts_text : List Given → List ℕ
-counts_text given = flat_map (λ g. count_line g.0 g.1.items g.1.ended) (enumerate_from 0 given)
+counts_text given = flat_map (λ g. seat_line g.0 g.1) (enumerate_from 0 given)
 
 -- how many items a receiver was given, and whether the end
 abbrev pub given_line : ℕ → Order → List ℕ
 given_line r q = count_line r (length (items_in q.entries)) q.ended
 
--- a line for each receiver, in order
-abbrev pub given_text : List Order → List ℕ
-given_text given = flat_map (λ g. given_line g.0 g.1) (enumerate_from 0 given)
+-- A line for each of so many seats that has or had a receiver, in order: how many items its last
+-- receiver was given, and whether the end.
+abbrev pub given_text : (taken : ℕ → Bool) (given : ℕ → Order) → (seats : ℕ) → List ℕ
+given_text taken given seats =
+    flat_map (λ r. if taken r then given_line r (given r) else []) (range_with_len 0 seats)

@@ -1,38 +1,87 @@
 //! What a script of `replay` is answered with.
 
-ghost use Rattle.std.specs.Prelude.{◌≡◌, ℕ, List, Some, IfOk, IfErr, string_bytes};
+ghost use Rattle.std.specs.Prelude.{◌≡◌, ℕ, ◌-◌, List, Some, IfOk, IfErr, false, length};
+ghost use Rattle.std.specs.Prelude.{slice_get, string_bytes};
+ghost use Rattle.bus_deliverylog.specs.Receiving.{Receiving};
 ghost use Rattle.bus_tenure.specs.Elections.{Elector, election_of};
 ghost use Rattle.bus_machine.specs.Machine.{no_machine_trails};
-ghost use Rattle.bus_machine.specs.Playing.{IsMadeWith, MakeRefused};
-ghost use Rattle.bus_world.specs.World.{no_bases};
 ghost use Rattle.bus_script.specs.LineNumbers.{refusal_line};
-ghost use Rattle.bus_replay.specs.Lines.{shape_in, reuse_in, passers_in};
-ghost use Rattle.bus_replay.specs.Answers.{End, Prints, Ends, Begins, IsReplay};
-ghost use Rattle.bus_replay.specs.Answers.{printed_trails};
+ghost use Rattle.bus_replay.specs.Answers.{End, Prints, Ends, Begins, IsReplay, Empties, IsOpened};
+ghost use Rattle.bus_replay.specs.Answers.{printed_trails, printed_seats, seats_at_first};
+ghost use Rattle.bus_replay.specs.Told.{FirstRefused};
 
 use crate::closing::push_closing;
 use crate::histories::History;
-use crate::lines::{FirstLine, first_of};
-use crate::names::make_fault_name;
+use crate::lines::{FirstFault, FirstLine, first_of};
+use crate::names::first_fault_name;
 use crate::playing::play;
 use bus_adoptcommit::Ratifier;
 use bus_machine::World;
+use bus_machine::shapes::fault_of;
 use bus_register::NoMemory;
+use bus_register::limits::MOST_RECEIVERS;
 use bus_script::{Answer, LineNumber, Lines, Outcome, refusal_line};
-use bus_world::MakeFault;
+use bus_world::{MakeFault, Shape};
 use std::alloc::Global;
 
-/// A new bus, such as the first line of a script asks for.
-pub fn new_bus<Q: Ratifier + Drop>(alloc: Global, first: FirstLine) -> Result<World<Q>, MakeFault>
-    ensures made { let X = election_of Q.Ratifier in
-        IfOk result (IsMadeWith X Q.protocol (shape_in first) (reuse_in first)
-        (passers_in first) no_bases) }
-    ensures fault { IfErr result (MakeRefused (shape_in first) (reuse_in first)) }
+/// The receivers from this number on leave, one after another.
+fn empty_seats<Q: Ratifier + Drop>(bus: &mut World<Q>, receivers: u64)
+    requires { (r : ℕ) (reader : Receiving) → slice_get bus.old.receivers r ≡ Some reader
+        → reader.gone ≡ false }
+    ensures { let X = election_of Q.Ratifier in
+        Empties X Q.protocol bus.old receivers (length bus.old.receivers - receivers) bus.new }
 {
-    match first {
+    for seat in receivers..bus.receivers() {
+        match bus.gone(seat) {
+            Ok(()) => {}
+            Err(_) => unreachable!(),
+        }
+    }
+}
+
+/// A new ring of so many seats, of which those past its receivers are free.
+fn new_ring<Q: Ratifier + Drop>(
+    alloc: Global,
+    shape: Shape,
+    seats: u64,
+) -> Result<World<Q>, FirstFault>
+    ensures made { let X = election_of Q.Ratifier in
+        IfOk result (IsOpened X Q.protocol (FirstLine.Ring shape seats)) }
+    ensures fault { IfErr result (FirstRefused (FirstLine.Ring shape seats)) }
+{
+    if let Some(fault) = fault_of(shape, Some(shape.rows)) {
+        return Err(FirstFault::Make(fault));
+    }
+    if seats < shape.receivers || seats > MOST_RECEIVERS {
+        return Err(FirstFault::Seats);
+    }
+    let with_all = Shape {
+        receivers: seats,
+        ..shape
+    };
+    match World::ring(alloc, with_all, None) {
+        Ok(mut bus) => {
+            empty_seats(&mut bus, shape.receivers);
+            Ok(bus)
+        }
+        Err(fault) => Err(FirstFault::Make(fault)),
+    }
+}
+
+/// A new bus, such as the first line of a script asks for.
+pub fn new_bus<Q: Ratifier + Drop>(alloc: Global, first: FirstLine) -> Result<World<Q>, FirstFault>
+    ensures made { let X = election_of Q.Ratifier in
+        IfOk result (IsOpened X Q.protocol first) }
+    ensures fault { IfErr result (FirstRefused first) }
+{
+    let made = match first {
         FirstLine::Shape(shape) => World::new(alloc, shape),
         FirstLine::Cycle(shape) => World::cyclic(alloc, shape, None),
-        FirstLine::Ring(shape) => World::ring(alloc, shape, None),
+        FirstLine::Ring { shape, seats } => return new_ring(alloc, shape, seats),
+    };
+    match made {
+        Ok(bus) => Ok(bus),
+        Err(fault) => Err(FirstFault::Make(fault)),
     }
 }
 
@@ -55,16 +104,17 @@ fn answer_from<Q: Ratifier + Drop>(
     first: FirstLine,
     lines: Lines<'_>,
 ) -> Result<Answer, NoMemory>
-    requires { let X = election_of Q.Ratifier in
-        IsMadeWith X Q.protocol (shape_in first) (reuse_in first) (passers_in first) no_bases bus }
+    requires { let X = election_of Q.Ratifier in IsOpened X Q.protocol first bus }
     ensures { let X = election_of Q.Ratifier in
         IfOk result (λ answer. (text : List ℕ) × (end : End (Elector Q))
         × (run : Prints X Q.protocol bus lines.entry text end)
         × Ends X Q.protocol end (printed_trails X Q.protocol bus lines.entry text end run
-        no_machine_trails) text answer.outcome (string_bytes answer.text)) }
+        no_machine_trails) (printed_seats X Q.protocol bus lines.entry text end run
+        (seats_at_first first)) text answer.outcome (string_bytes answer.text)) }
 {
     let mut text = String::new(alloc);
-    let mut history = History::new(alloc, first.shape().log_words, bus.receivers())?;
+    let shape = first.shape();
+    let mut history = History::new(alloc, shape.log_words, first.seats(), shape.receivers)?;
     match play(alloc, &mut bus, &mut history, lines, &mut text)? {
         Outcome::Done => {
             push_closing(alloc, &bus, &history, &mut text)?;
@@ -93,8 +143,8 @@ fn answer_behind<Q: Ratifier + Drop>(
 {
     match new_bus::<Q>(alloc, first) {
         Ok(bus) => answer_from(alloc, bus, first, lines),
-        Err(MakeFault::NoMemory) => Err(NoMemory),
-        Err(fault) => refused(alloc, LineNumber::AtLine(number), make_fault_name(fault)),
+        Err(FirstFault::Make(MakeFault::NoMemory)) => Err(NoMemory),
+        Err(fault) => refused(alloc, LineNumber::AtLine(number), first_fault_name(fault)),
     }
 }
 

@@ -1,6 +1,6 @@
 //! What `replay` prints behind the answers to a script.
 
-ghost use Rattle.std.specs.Prelude.{◌≡◌, ◌++◌, ℕ, List, map, flat_map, OnOk, IfOk};
+ghost use Rattle.std.specs.Prelude.{◌≡◌, ◌++◌, ℕ, Bool, List, map, flat_map, OnOk, IfOk};
 ghost use Rattle.std.specs.Prelude.{string_bytes};
 ghost use Rattle.bus_batch.specs.Frames.{Says};
 ghost use Rattle.bus_deliverylog.specs.Orders.{merged, order_held};
@@ -95,12 +95,14 @@ fn push_count(text: &mut String, receiver: u64, items: u64, ended: bool) -> Resu
     text.push_str("\n")
 }
 
-/// Puts the lines of all receivers at the end of a text.
+/// Puts the line of each seat that has or had a receiver at the end of a text.
 fn push_all_given(text: &mut String, all: &[Given]) -> Result<(), AllocError>
     ensures { OnOk result (string_bytes text.new ≡ string_bytes text.old ++ counts_text all.now) }
 {
     for (receiver, given) in all.iter().enumerate() {
-        push_count(text, receiver as u64, given.items, given.ended)?;
+        if given.taken {
+            push_count(text, receiver as u64, given.items, given.ended)?;
+        }
     }
     Ok(())
 }
@@ -128,10 +130,12 @@ pub fn push_closing<Q: Ratifier + Drop>(
     text: &mut String,
 ) -> Result<(), NoMemory>
     requires { let X = election_of Q.Ratifier in
-        (trails : Trails) × IsHistoryOf X Q.protocol bus.now history.now trails }
+        (trails : Trails) × (taken : ℕ → Bool)
+        × IsHistoryOf X Q.protocol bus.now history.now trails taken }
     ensures { let X = election_of Q.Ratifier in
-        OnOk result ((trails : Trails) → IsHistoryOf X Q.protocol bus.now history.now trails
-        → (closing : List ℕ) × Closes X Q.protocol bus.now trails closing
+        OnOk result ((trails : Trails) (taken : ℕ → Bool)
+        → IsHistoryOf X Q.protocol bus.now history.now trails taken
+        → (closing : List ℕ) × Closes X Q.protocol bus.now trails taken closing
         × (string_bytes text.new ≡ string_bytes text.old ++ closing)) }
 {
     bus.promises();

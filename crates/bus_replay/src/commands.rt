@@ -1,13 +1,12 @@
 //! Commands to a bus.
 
-ghost use Rattle.std.specs.Prelude.{◌≤◌};
-
 use bus_world::Event;
 
-/// An event, at most so many times.
+/// What a line asks for.
 #[derive(Debug, Drop)]
-pub struct Command {
-    pub event: Event,
-    pub times: u64,
-    ghost once: { 1 ≤ times },
+pub enum Command {
+    /// An event, at most so many times.
+    Play { event: Event, times: u64 },
+    /// That a receiver forks to a higher number.
+    Fork { receiver: u64, number: u64 },
 }

@@ -1,10 +1,11 @@
 //! What a bus has published and given, also where its own words are used again.
 
-ghost use Rattle.std.specs.Prelude.{◌≡◌, ◌-◌, ◌<◌, ◌≤◌, ◌++◌, [], IfOk, OnOk, length, replicate};
-ghost use Rattle.std.specs.Prelude.{false, slice_index};
+ghost use Rattle.std.specs.Prelude.{◌≡◌, ◌-◌, ◌<◌, ◌≤◌, ◌++◌, [], IfOk, OnOk, length, map};
+ghost use Rattle.std.specs.Prelude.{false, nat_lt, slice_index};
+ghost use Rattle.std.specs.List.{range_with_len};
 ghost use Rattle.bus_world.specs.Log.{words_in_ring};
 ghost use Rattle.bus_world.specs.Playing.{event_told};
-ghost use Rattle.bus_replay.specs.Histories.{given_with, kept_after, AsksOne};
+ghost use Rattle.bus_replay.specs.Histories.{given_with, kept_after, kept_forked, AsksOne};
 
 use bus_deliverylog::RecvTurn;
 use bus_register::{NoMemory, cell};
@@ -12,14 +13,16 @@ use bus_world::{Answer, Event};
 use std::alloc::Global;
 use std::marker::Model;
 
-/// What a receiver was given: how many items, and whether the end.
+/// What the last receiver of a seat was given: how many items, and whether the end.
 #[derive(Clone, Copy, Debug)]
 pub struct Given {
+    /// Whether the seat has or had a receiver.
+    pub taken: bool,
     pub items: u64,
     pub ended: bool,
 }
 
-/// All words that a bus has published, and what each of its receivers was given.
+/// All words that a bus has published, and what the receiver of each of its seats was given.
 #[derive(Drop)]
 pub struct History {
     /// How many words the log of the bus has.
@@ -59,17 +62,25 @@ fn given_with(turn: &RecvTurn, given: Given) -> Result<Given, NoMemory>
 }
 
 impl History {
-    /// That of a new bus of so many log words.
-    pub fn new(alloc: Global, capacity: u64, receivers: u64) -> Result<History, NoMemory>
+    /// That of a new bus of so many log words and seats, of which the first so many have a
+    /// receiver.
+    pub fn new(
+        alloc: Global,
+        capacity: u64,
+        seats: u64,
+        receivers: u64,
+    ) -> Result<History, NoMemory>
         ensures { IfOk result (λ history. history ≡ record {
           capacity = capacity;
           log = [];
-          given = replicate receivers (record { items = 0; ended = false });
+          given = map (λ seat. record { taken = nat_lt seat receivers; items = 0; ended = false })
+              (range_with_len 0 seats);
         }) }
     {
         let mut given = Vec::new(alloc);
-        for _ in 0..receivers {
+        for seat in 0..seats {
             given.push(Given {
+                taken: seat < receivers,
                 items: 0,
                 ended: false,
             })?;
@@ -88,7 +99,7 @@ impl History {
         &self.log
     }
 
-    /// What each receiver was given.
+    /// What the receiver of each seat was given.
     pub fn given(&self) -> &[Given]
         ensures { result.now ≡ self.now.given }
     {
@@ -130,5 +141,19 @@ impl History {
             (Event::Turn { .. }, _) => self.copy_published(words),
             _ => Ok(()),
         }
+    }
+
+    /// Notes that a receiver has forked to this number: what it was given counts as given to the
+    /// new one.
+    pub fn note_fork(&mut self, receiver: u64, number: u64)
+        requires maker { receiver < length self.old.given }
+        requires there { number < length self.old.given }
+        ensures { self.new ≡ kept_forked receiver number self.old }
+    {
+        let given = self.given[receiver as usize];
+        self.given[number as usize] = Given {
+            taken: true,
+            ..given
+        };
     }
 }

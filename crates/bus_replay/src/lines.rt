@@ -4,17 +4,17 @@ ghost use Rattle.std.specs.Prelude.{◌≡◌, ◌⊎◌, [], None, Some, IfOk, 
 ghost use Rattle.std.specs.Prelude.{MatchOption, codes, option_and_then};
 ghost use Rattle.std.specs.Option.{option_map};
 ghost use Rattle.bus_script.specs.Grammar.{number_of, each_of, and_before, arguments_of};
-ghost use Rattle.bus_replay.specs.Lines.{shape_from, shape_of, first_of};
+ghost use Rattle.bus_replay.specs.Lines.{shape_from, shape_of, ring_from, ring_of, first_of};
 ghost use Rattle.bus_replay.specs.Lines.{put_of, put_from, close_from, are_times};
 ghost use Rattle.bus_replay.specs.Lines.{turn_from, recv_from, stop_from, leave_from};
-ghost use Rattle.bus_replay.specs.Lines.{gone_from, shape_in};
+ghost use Rattle.bus_replay.specs.Lines.{gone_from, fork_from, shape_in, seats_in};
 ghost use Rattle.bus_replay.specs.Lines.{numbers_behind, command_of, hex_of};
-ghost use Rattle.bus_replay.specs.Told.{command_told};
+ghost use Rattle.bus_replay.specs.Told.{command_told, sizes_before};
 
 use crate::commands::Command;
 use crate::hex::hex_of;
 use bus_script::{Words, number_of, words_behind};
-use bus_world::{Event, Shape};
+use bus_world::{Event, MakeFault, Shape};
 use std::alloc::{AllocError, Global};
 
 /// Turns that one line asks for: 1 to 10,000.
@@ -36,8 +36,18 @@ pub enum FirstLine {
     Shape(Shape),
     /// `cycle N M R T L`: a bus whose rows are used again.
     Cycle(Shape),
-    /// `ring N M R T L`: a bus whose rows are used again, and whose log words are.
-    Ring(Shape),
+    /// `ring N M R T L`, or `ring N M R T L S`: a bus whose rows are used again, and whose log
+    /// words are. It has so many seats, of which the first have a receiver.
+    Ring { shape: Shape, seats: u64 },
+}
+
+/// Why the first line of a script gives no bus.
+#[derive(Debug, PartialEq, Eq, Clone, Copy)]
+pub enum FirstFault {
+    /// No bus of its sizes is made.
+    Make(MakeFault),
+    /// A ring has fewer seats than receivers, or more than 64.
+    Seats,
 }
 
 impl FirstLine {
@@ -46,14 +56,30 @@ impl FirstLine {
         ensures { result ≡ shape_in self }
     {
         match self {
-            FirstLine::Shape(shape) | FirstLine::Cycle(shape) | FirstLine::Ring(shape) => shape,
+            FirstLine::Shape(shape)
+            | FirstLine::Cycle(shape)
+            | FirstLine::Ring { shape, seats: _ } => shape,
+        }
+    }
+
+    /// How many seats it has.
+    pub fn seats(self) -> u64
+        ensures { result ≡ seats_in self }
+    {
+        match self {
+            FirstLine::Shape(shape) | FirstLine::Cycle(shape) => shape.receivers,
+            FirstLine::Ring { shape: _, seats } => seats,
         }
     }
 }
 
-/// The sizes that stand behind a first line's keyword.
-fn sizes_behind(line: &[u8], keyword: &[u8]) -> Option<Shape>
-    ensures { result ≡ option_and_then shape_from (numbers_behind keyword.now line.now) }
+/// The sizes that stand behind a first line's keyword, and the words behind them.
+fn sizes_before<'a>(line: &'a [u8], keyword: &[u8]) -> Option<(Shape, Words<'a>)>
+    ensures some { IfSome result (λ told. numbers_behind keyword.now line.entry.now
+        ≡ sizes_before told.0 (each_of number_of told.1)) }
+    ensures none { IfNone result
+        ((option_and_then shape_from (numbers_behind keyword.now line.entry.now) ≡ None)
+        × (option_and_then ring_from (numbers_behind keyword.now line.entry.now) ≡ None)) }
 {
     let mut words = words_behind(line, keyword)?;
     let senders = next_number(&mut words)?;
@@ -61,16 +87,41 @@ fn sizes_behind(line: &[u8], keyword: &[u8]) -> Option<Shape>
     let rounds = next_number(&mut words)?;
     let rows = next_number(&mut words)?;
     let log_words = next_number(&mut words)?;
-    if words.next_word().is_some() {
-        return None;
-    }
-    Some(Shape {
+    let shape = Shape {
         senders,
         receivers,
         rounds,
         rows,
         log_words,
-    })
+    };
+    Some((shape, words))
+}
+
+/// The sizes that stand behind a first line's keyword, and nothing else.
+fn sizes_behind(line: &[u8], keyword: &[u8]) -> Option<Shape>
+    ensures { result ≡ option_and_then shape_from (numbers_behind keyword.now line.now) }
+{
+    let (shape, mut words) = sizes_before(line, keyword)?;
+    if words.next_word().is_some() {
+        return None;
+    }
+    Some(shape)
+}
+
+/// The sizes and seats of a ring, where the line asks for one.
+fn ring_of(line: &[u8]) -> Option<FirstLine>
+    ensures { result ≡ ring_of line.now }
+{
+    let (shape, mut words) = sizes_before(line, b"ring")?;
+    let Some(word) = words.next_word() else {
+        let seats = shape.receivers;
+        return Some(FirstLine::Ring { shape, seats });
+    };
+    let seats = number_of(word)?;
+    if words.next_word().is_some() {
+        return None;
+    }
+    Some(FirstLine::Ring { shape, seats })
 }
 
 /// The sizes of a bus that has a row for each tenure, where the line asks for one.
@@ -89,7 +140,7 @@ pub fn first_of(line: &[u8]) -> Option<FirstLine>
     }
     match sizes_behind(line, b"cycle") {
         Some(shape) => Some(FirstLine::Cycle(shape)),
-        None => Some(FirstLine::Ring(sizes_behind(line, b"ring")?)),
+        None => ring_of(line),
     }
 }
 
@@ -118,7 +169,7 @@ fn put_of(alloc: Global, line: &[u8]) -> Result<Option<Command>, AllocError>
         return Ok(None);
     };
     match hex_of(alloc, word)? {
-        Some(bytes) => Ok(Some(Command {
+        Some(bytes) => Ok(Some(Command::Play {
             event: Event::Put { sender, bytes },
             times: 1,
         })),
@@ -135,7 +186,7 @@ fn close_of(line: &[u8]) -> Option<Command>
     if words.next_word().is_some() {
         return None;
     }
-    Some(Command {
+    Some(Command::Play {
         event: Event::Close(sender),
         times: 1,
     })
@@ -158,7 +209,7 @@ fn turn_of(line: &[u8]) -> Option<Command>
     if words.next_word().is_some() || word > u64::from(u32::MAX) || !are_times(times) {
         return None;
     }
-    Some(Command {
+    Some(Command::Play {
         event: Event::Turn {
             sender,
             word: word as u32,
@@ -177,7 +228,7 @@ fn recv_of(line: &[u8]) -> Option<Command>
     if words.next_word().is_some() || !are_times(times) {
         return None;
     }
-    Some(Command {
+    Some(Command::Play {
         event: Event::Recv(receiver),
         times,
     })
@@ -192,7 +243,7 @@ fn stop_of(line: &[u8]) -> Option<Command>
     if words.next_word().is_some() {
         return None;
     }
-    Some(Command {
+    Some(Command::Play {
         event: Event::Stop(sender),
         times: 1,
     })
@@ -207,7 +258,7 @@ fn leave_of(line: &[u8]) -> Option<Command>
     if words.next_word().is_some() {
         return None;
     }
-    Some(Command {
+    Some(Command::Play {
         event: Event::Leave(sender),
         times: 1,
     })
@@ -222,10 +273,23 @@ fn gone_of(line: &[u8]) -> Option<Command>
     if words.next_word().is_some() {
         return None;
     }
-    Some(Command {
+    Some(Command::Play {
         event: Event::Gone(receiver),
         times: 1,
     })
+}
+
+fn fork_of(line: &[u8]) -> Option<Command>
+    ensures { option_map command_told result ≡ option_and_then fork_from
+        (numbers_behind (codes "fork") line.now) }
+{
+    let mut words = words_behind(line, b"fork")?;
+    let receiver = next_number(&mut words)?;
+    let number = next_number(&mut words)?;
+    if words.next_word().is_some() {
+        return None;
+    }
+    Some(Command::Fork { receiver, number })
 }
 
 /// What a line behind the first one asks for.
@@ -247,8 +311,11 @@ pub fn command_of(alloc: Global, line: &[u8]) -> Result<Option<Command>, AllocEr
     if let Some(command) = stop_of(line) {
         return Ok(Some(command));
     }
-    match leave_of(line) {
+    if let Some(command) = leave_of(line) {
+        return Ok(Some(command));
+    }
+    match gone_of(line) {
         Some(command) => Ok(Some(command)),
-        None => Ok(gone_of(line)),
+        None => Ok(fork_of(line)),
     }
 }

@@ -3,7 +3,9 @@
 ghost use Rattle.std.specs.Prelude.{◌≡◌};
 ghost use Rattle.bus_replay.specs.Text.{put_fault_name, close_fault_name, step_fault_name};
 ghost use Rattle.bus_replay.specs.Text.{make_fault_name};
+ghost use Rattle.bus_replay.specs.Told.{first_fault_name};
 
+use crate::lines::FirstFault;
 use bus_batch::{CloseFault, PutFault};
 use bus_world::{MakeFault, StepFault};
 
@@ -39,6 +41,17 @@ pub fn step_fault_name(fault: StepFault) -> &'static str
         StepFault::Put(why) => put_fault_name(why),
         StepFault::Close(why) => close_fault_name(why),
         StepFault::Gone => "Gone",
+        StepFault::NotAbove => "NotAbove",
+    }
+}
+
+/// Why the first line of a script gives no bus.
+pub fn first_fault_name(fault: FirstFault) -> &'static str
+    ensures { result.now ≡ first_fault_name fault }
+{
+    match fault {
+        FirstFault::Make(why) => make_fault_name(why),
+        FirstFault::Seats => "Seats",
     }
 }
 

@@ -1,23 +1,25 @@
 //! How the lines of a script move the bus.
 
-ghost use Rattle.std.specs.Prelude.{◌≡◌, ◌++◌, ◌-◌, ℕ, ◌<◌, List, IfOk, IfErr};
-ghost use Rattle.std.specs.Prelude.{OnOk, string_bytes};
+ghost use Rattle.std.specs.Prelude.{◌≡◌, ◌++◌, ◌-◌, ℕ, ◌<◌, ◌≤◌, Bool, List, [], IfOk, IfErr};
+ghost use Rattle.std.specs.Prelude.{OnOk, length, slice_get, string_bytes};
 ghost use Rattle.bus_tenure.specs.Elections.{election_of};
-ghost use Rattle.bus_world.specs.Playing.{event_told};
+ghost use Rattle.bus_world.specs.Playing.{event_told, ForkRefused};
 ghost use Rattle.bus_machine.specs.Playing.{Answers, Refused};
 ghost use Rattle.bus_script.specs.declared.line_numbers.LineNumber.TheVariants.{AtLine};
 ghost use Rattle.bus_script.specs.LineNumbers.{refusal_line};
-ghost use Rattle.bus_machine.specs.Machine.{Trails, trails_grown};
+ghost use Rattle.bus_machine.specs.Machine.{Forks, Trails, trails_grown};
+ghost use Rattle.bus_replay.specs.Answers.{fork_seats, fork_trails};
 ghost use Rattle.bus_replay.specs.GoingOn.{goes_on};
-ghost use Rattle.bus_replay.specs.Histories.{IsHistoryOf};
+ghost use Rattle.bus_replay.specs.Histories.{IsHistoryOf, AreNobodys};
 ghost use Rattle.bus_deliverylog.specs.Receiving.{recv_goes_on};
 ghost use Rattle.bus_tenure.specs.Classes.{still_goes};
 ghost use Rattle.bus_replay.specs.Told.{IsRepeated, IsObeyed, ArePlayed};
 
+use crate::commands::Command;
 use crate::histories::History;
 use crate::lines::command_of;
 use crate::names::step_fault_name;
-use crate::text::push_answer_line;
+use crate::text::{push_answer_line, push_fork_line};
 use bus_adoptcommit::Ratifier;
 use bus_deliverylog::RecvTurn;
 use bus_machine::World;
@@ -62,15 +64,16 @@ fn step_noted<Q: Ratifier + Drop>(
     event: &Event,
 ) -> Result<Result<Answer, StepFault>, NoMemory>
     requires { let X = election_of Q.Ratifier in
-        (trails : Trails) × IsHistoryOf X Q.protocol bus.old history.old trails }
+        (trails : Trails) × (taken : ℕ → Bool)
+        × IsHistoryOf X Q.protocol bus.old history.old trails taken }
     ensures answered { let X = election_of Q.Ratifier in
         IfOk result (λ told. IfOk told (λ answer. Answers X Q.protocol bus.old
         (event_told event.now) answer bus.new)) }
     ensures noted { let X = election_of Q.Ratifier in
-        IfOk result (λ told. IfOk told (λ answer. (trails : Trails)
-        → IsHistoryOf X Q.protocol bus.old history.old trails
+        IfOk result (λ told. IfOk told (λ answer. (trails : Trails) (taken : ℕ → Bool)
+        → IsHistoryOf X Q.protocol bus.old history.old trails taken
         → IsHistoryOf X Q.protocol bus.new history.new
-        (trails_grown X bus.old (event_told event.now) answer trails))) }
+        (trails_grown X bus.old (event_told event.now) answer trails) taken)) }
     ensures fault { IfOk result (λ told. IfErr told (Refused bus.old (event_told event.now))) }
 {
     published_words_stand::<Q>();
@@ -91,7 +94,8 @@ fn repeat<Q: Ratifier + Drop>(
 ) -> Result<Result<Answer, StepFault>, NoMemory>
     requires some { 0 < times }
     requires held { let X = election_of Q.Ratifier in
-        (trails : Trails) × IsHistoryOf X Q.protocol bus.old history.old trails }
+        (trails : Trails) × (taken : ℕ → Bool)
+        × IsHistoryOf X Q.protocol bus.old history.old trails taken }
     ensures last { let X = election_of Q.Ratifier in
         IfOk result (λ told. IfOk told (λ last. IsRepeated X Q.protocol bus.old history.old
         (event_told event.now) (times - 1) last bus.new history.new)) }
@@ -112,6 +116,33 @@ fn repeat<Q: Ratifier + Drop>(
     Ok(Ok(last))
 }
 
+/// A receiver forks to a higher number, and the history notes it where that is done.
+fn fork_noted<Q: Ratifier + Drop>(
+    bus: &mut World<Q>,
+    history: &mut History,
+    receiver: u64,
+    number: u64,
+) -> Result<bool, StepFault>
+    requires { let X = election_of Q.Ratifier in
+        (trails : Trails) × (taken : ℕ → Bool)
+        × IsHistoryOf X Q.protocol bus.old history.old trails taken }
+    ensures forked { IfOk result (λ did. Forks bus.old receiver number did bus.new) }
+    ensures noted { let X = election_of Q.Ratifier in
+        IfOk result (λ did. (n : ℕ) (trails : Trails) (taken : ℕ → Bool)
+        → IsHistoryOf X Q.protocol bus.old history.old trails taken
+        → length bus.old.receivers ≤ n → trails.heard n ≡ []
+        → IsHistoryOf X Q.protocol bus.new history.new (fork_trails receiver number n did trails)
+        (fork_seats number did taken)) }
+    ensures fault { IfErr result (ForkRefused (slice_get bus.old.receivers receiver)
+        (slice_get bus.old.receivers number) receiver number) }
+{
+    let did = bus.fork(receiver, number)?;
+    if did {
+        history.note_fork(receiver, number);
+    }
+    Ok(did)
+}
+
 /// Puts the line of a refusal at the end of a text.
 pub fn push_refusal(
     alloc: Global,
@@ -126,6 +157,16 @@ pub fn push_refusal(
     text.push_str(&line)
 }
 
+/// Puts the line of a refusal at the end of a text: no line behind it is obeyed.
+fn refuse(alloc: Global, number: u64, name: &str, text: &mut String) -> Result<Outcome, NoMemory>
+    ensures outcome { IfOk result (λ outcome. outcome ≡ Outcome.Refused) }
+    ensures text { OnOk result
+        (string_bytes text.new ≡ string_bytes text.old ++ refusal_line (AtLine number) name.now) }
+{
+    push_refusal(alloc, number, name, text)?;
+    Ok(Outcome::Refused)
+}
+
 /// Does what a line asks for, and puts its answer or its refusal at the end of a text.
 fn obey<Q: Ratifier + Drop>(
     alloc: Global,
@@ -135,7 +176,8 @@ fn obey<Q: Ratifier + Drop>(
     text: &mut String,
 ) -> Result<Outcome, NoMemory>
     requires { let X = election_of Q.Ratifier in
-        (trails : Trails) × IsHistoryOf X Q.protocol bus.old history.old trails }
+        (trails : Trails) × (taken : ℕ → Bool)
+        × IsHistoryOf X Q.protocol bus.old history.old trails taken }
     ensures { let X = election_of Q.Ratifier in
         IfOk result (λ outcome. (added : List ℕ)
         × IsObeyed X Q.protocol bus.old history.old (line.entry.number, line.entry.bytes.now)
@@ -143,18 +185,23 @@ fn obey<Q: Ratifier + Drop>(
         × (string_bytes text.new ≡ string_bytes text.old ++ added)) }
 {
     let Some(command) = command_of(alloc, line.bytes)? else {
-        push_refusal(alloc, line.number, "BadLine", text)?;
-        return Ok(Outcome::Refused);
+        return refuse(alloc, line.number, "BadLine", text);
     };
-    match repeat(bus, history, &command.event, command.times)? {
-        Ok(answer) => {
-            push_answer_line(text, &command.event, &answer)?;
-            Ok(Outcome::Done)
-        }
-        Err(fault) => {
-            push_refusal(alloc, line.number, step_fault_name(fault), text)?;
-            Ok(Outcome::Refused)
-        }
+    match command {
+        Command::Play { event, times } => match repeat(bus, history, &event, times)? {
+            Ok(answer) => {
+                push_answer_line(text, &event, &answer)?;
+                Ok(Outcome::Done)
+            }
+            Err(fault) => refuse(alloc, line.number, step_fault_name(fault), text),
+        },
+        Command::Fork { receiver, number } => match fork_noted(bus, history, receiver, number) {
+            Ok(did) => {
+                push_fork_line(text, receiver, number, did)?;
+                Ok(Outcome::Done)
+            }
+            Err(fault) => refuse(alloc, line.number, step_fault_name(fault), text),
+        },
     }
 }
 
@@ -167,7 +214,9 @@ pub fn play<Q: Ratifier + Drop>(
     text: &mut String,
 ) -> Result<Outcome, NoMemory>
     requires { let X = election_of Q.Ratifier in
-        (trails : Trails) × IsHistoryOf X Q.protocol bus.old history.old trails }
+        (trails : Trails) × (taken : ℕ → Bool)
+        × IsHistoryOf X Q.protocol bus.old history.old trails taken
+        × AreNobodys (length bus.old.receivers) (length lines) trails }
     ensures { let X = election_of Q.Ratifier in
         IfOk result (λ outcome. (added : List ℕ)
         × ArePlayed X Q.protocol bus.old history.old lines.entry outcome added bus.new

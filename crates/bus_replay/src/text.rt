@@ -3,6 +3,7 @@
 ghost use Rattle.std.specs.Prelude.{◌≡◌, ◌++◌, OnOk, string_bytes};
 ghost use Rattle.bus_world.specs.Playing.{event_told};
 ghost use Rattle.bus_replay.specs.Text.{answer_text, event_text, answer_line};
+ghost use Rattle.bus_replay.specs.Text.{fork_text, fork_line};
 
 use bus_world::{Answer, Event};
 use std::alloc::AllocError;
@@ -39,7 +40,7 @@ fn push_event(text: &mut String, event: &Event) -> Result<(), AllocError>
     }
 }
 
-/// Puts the line of a command that was answered at the end of a text.
+/// Puts the line of an event that was answered at the end of a text.
 pub fn push_answer_line(text: &mut String, event: &Event, answer: &Answer) -> Result<(), AllocError>
     ensures { OnOk result
         (string_bytes text.new ≡ string_bytes text.old
@@ -48,5 +49,27 @@ pub fn push_answer_line(text: &mut String, event: &Event, answer: &Answer) -> Re
     push_event(text, event)?;
     text.push_str(": ")?;
     push_answer(text, answer)?;
+    text.push_str("\n")
+}
+
+/// Whether a receiver has forked.
+pub fn fork_text(did: bool) -> &'static str
+    ensures { result.now ≡ fork_text did }
+{
+    if did { "forked" } else { "no seat" }
+}
+
+/// Puts the line of a fork that was answered at the end of a text.
+pub fn push_fork_line(
+    text: &mut String,
+    receiver: u64,
+    number: u64,
+    did: bool,
+) -> Result<(), AllocError>
+    ensures { OnOk result
+        (string_bytes text.new ≡ string_bytes text.old ++ fork_line receiver number did) }
+{
+    write!(text, "fork {receiver} {number}: ")?;
+    text.push_str(fork_text(did))?;
     text.push_str("\n")
 }

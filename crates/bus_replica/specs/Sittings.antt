@@ -1,5 +1,5 @@
 -- Two sittings, of which the second one goes on from what was recorded of the first.
-use Rattle.std.specs.Prelude.{◌≡◌, ◌≢◌, ℕ, List, [], ◌∷◌, map, ◌++◌, slice_index, Option, ◌≤◌}
+use Rattle.std.specs.Prelude.{◌≡◌, ◌≢◌, ℕ, List, [], ◌∷◌, map, ◌++◌}
 use Rattle.bus_batch.specs.declared.messages.Item.{Item}
 use Rattle.bus_batch.specs.Frames.{Order, Says}
 use Rattle.bus_replica.specs.Replicas.{LeadTo, Operations}

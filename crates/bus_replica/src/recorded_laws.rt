@@ -20,7 +20,7 @@ ghost use Rattle.bus_replica.specs.Linearized.{IsLinearized, IsRead};
 ghost use Rattle.bus_replica.specs.OneOrder.{AreFunctions};
 ghost use Rattle.bus_replica.specs.Pages.{FollowsPage, IsPageBehind};
 ghost use Rattle.bus_replica.specs.Replicas.{LeadTo, has_view, items_heard};
-ghost use Rattle.bus_replica.specs.Sittings.{RecoveriesRefuse, behind, keeps, nothing};
+ghost use Rattle.bus_replica.specs.Sittings.{RecoveriesRefuse, behind};
 ghost use Rattle.bus_tenure.specs.declared.pages.Page.{Page};
 
 use crate::states::State;

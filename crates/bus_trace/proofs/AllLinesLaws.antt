@@ -19,10 +19,11 @@ use Rattle.bus_batch.specs.declared.batches.PutFault.{PutFault}
 use Rattle.bus_batch.specs.declared.batches.PutFault.TheVariants as put
 use Rattle.bus_tenure.specs.Elections.{Elector}
 use Rattle.bus_core.specs.Senders.{Sender}
-use Rattle.bus_machine.specs.Machine.{Machine, Happens, has_stopped, going}
+use Rattle.bus_machine.specs.Machine.{Machine, Happens, Forks, has_stopped, going}
 use Rattle.bus_tenure.specs.Core.{Election}
 use Rattle.bus_world.specs.World.{Event, Put, Ask, Turn, Recv, Stop, Gone}
 use Rattle.bus_world.specs.declared.events.Answer.{Answer}
+use Rattle.bus_world.specs.declared.events.Answer.TheVariants as answer
 use Rattle.bus_world.specs.declared.events.StepFault.{StepFault}
 use Rattle.bus_world.specs.declared.events.StepFault.TheVariants as fault
 use Rattle.bus_world.specs.declared.shapes.MakeFault.{MakeFault}
@@ -33,11 +34,11 @@ use Rattle.bus_script.specs.declared.line_numbers.LineNumber.TheVariants.{AtLine
 use Rattle.bus_script.specs.Grammar.{script_lines}
 use Rattle.bus_script.specs.LineNumbers.{line_number_text, refusal_line}
 use Rattle.bus_replay.specs.declared.lines.FirstLine.{FirstLine}
-use Rattle.bus_replay.specs.Lines.{Command, first_of, command_of, shape_in, reuse_in}
-use Rattle.bus_replay.specs.Lines.{passers_in}
+use Rattle.bus_replay.specs.Lines.{Command, Plays, ForksTo, first_of, command_of, shape_in}
+use Rattle.bus_replay.specs.Lines.{seats_in, reuse_in, passers_in}
 use Rattle.bus_replay.specs.Text.{put_fault_name, close_fault_name, step_fault_name}
 use Rattle.bus_replay.specs.Text.{make_fault_name}
-use Rattle.bus_replay.specs.Answers.{End, Repeats, Asked, Prints}
+use Rattle.bus_replay.specs.Answers.{End, Stopped, Repeats, Asked, Prints, Empties}
 use Rattle.bus_picture.specs.AllLines.{HasAllLines}
 use Rattle.bus_picture.specs.Rows.{row_of}
 use Rattle.bus_picture.proofs.PlainTexts.{IsPlain, HasNoEnd, plain_by, plain_append, plain_decimal}
@@ -47,7 +48,7 @@ use Rattle.bus_trace.specs.Words.{TraceSizes, sizes_of}
 use Rattle.bus_trace.specs.Rows.{column, header}
 use Rattle.bus_trace.specs.Traces.{repeat_rows, asked_rows, printed_rows, numbered_rows}
 use Rattle.bus_trace.specs.Traces.{refusal_of, IsRefused, ArePrinted, Begins, Traces, IsTrace}
-use Rattle.bus_trace.proofs.LineLaws.{AsksFew, line_read}
+use Rattle.bus_trace.proofs.LineLaws.{AsksFew, line_read, fork_read}
 use Rattle.bus_trace.proofs.RowLemmas.{there}
 
 -- ---- refusals
@@ -84,6 +85,7 @@ plain_fault fault.Stopped = plain_by (codes "Stopped") refl
 plain_fault (fault.Put why) = plain_put why
 plain_fault (fault.Close why) = plain_close why
 plain_fault fault.Gone = plain_by (codes "Gone") refl
+plain_fault fault.NotAbove = plain_by (codes "NotAbove") refl
 
 plain_make : (why : MakeFault) → IsPlain (make_fault_name why)
 plain_make make.Senders = plain_by (codes "Senders") refl
@@ -183,6 +185,17 @@ module _ {E : Type 0} (X : Election E) where
   few_asked m (Gone r) a new few h =
       let lt = slice_get_within m.receivers r h.receiver h.there in omega (arith, lt, few.1)
 
+  few_forked : (m : Machine E) (i j : ℕ) (did : Bool) (new : Machine E) → HasFew m
+      → Forks m i j did new → HasFew new
+  few_forked m i j true new few h =
+      subst HasFew (sym h.after) (few.0, few_set MOST_RECEIVERS m.receivers j _ few.1)
+  few_forked m i j false new few h = subst HasFew (sym h.after) few
+
+  maker_few : (m : Machine E) (i j : ℕ) (did : Bool) (new : Machine E) → HasFew m
+      → Forks m i j did new → i < MOST_RECEIVERS
+  maker_few m i j did new few h =
+      let lt = slice_get_within m.receivers i h.maker h.there in omega (arith, lt, few.1)
+
 -- ---- runs
 module _ {S : Type 0} (X : Election (Elector S)) (P : Protocol S Bool Verdict)
     (p : TraceSizes) where
@@ -213,6 +226,13 @@ module _ {S : Type 0} (X : Election (Elector S)) (P : Protocol S Bool Verdict)
         (line_read p X line b e run.1 (few_asked X b e run.1 run.0 few run.2.happens), rest.1),
       )
 
+  fault_read : (line : ℕ) (why : StepFault) (end : End (Elector S))
+      → end ≡ Stopped (refusal_line (AtLine line) (step_fault_name why))
+      → IsRefusal (refusal_of end)
+  fault_read line why end is =
+      subst (λ (z : End (Elector S)). IsRefusal (refusal_of z)) (sym is)
+      (names_refusal (AtLine line) (step_fault_name why) (plain_fault why))
+
   asked_read : (b : Machine (Elector S)) (line : ℕ) (c : Option Command)
       (Behind : Machine (Elector S) → List ℕ → End (Elector S) → Type 0)
       (behind : (mid : Machine (Elector S)) (rest : List ℕ) (end : End (Elector S))
@@ -228,17 +248,23 @@ module _ {S : Type 0} (X : Election (Elector S)) (P : Protocol S Bool Verdict)
     subst (λ (z : End (Elector S)). IsRefusal (refusal_of z)) (sym run.1)
         (bad_line (AtLine line)),
   )
-  asked_read b line (Some c) Behind behind text end (inl refused) each few = (
-    tt,
-    subst (λ (z : End (Elector S)). IsRefusal (refusal_of z))
-        (sym refused.3)
-        (names_refusal (AtLine line) (step_fault_name refused.0) (plain_fault refused.0)),
-  )
-  asked_read b line (Some c) Behind behind text end (inr run) each few =
-      let first = repeats_read line b c.event (c.times - 1) run.1 run.0 run.3 few in
+  asked_read b line (Some (Plays event times)) Behind behind text end (inl refused) each few =
+      (tt, fault_read line refused.0 end refused.3)
+  asked_read b line (Some (Plays event times)) Behind behind text end (inr run) each few =
+      let first = repeats_read line b event (times - 1) run.1 run.0 run.3 few in
       let rest = each run.0 run.2 end run.4 first.0 in (
-        read_append (repeat_rows X P p line b c.event (c.times - 1) run.1 run.0 run.3)
+        read_append (repeat_rows X P p line b event (times - 1) run.1 run.0 run.3)
             (behind run.0 run.2 end run.4) first.1 rest.0,
+        rest.1,
+      )
+  asked_read b line (Some (ForksTo i j)) Behind behind text end (inl refused) each few =
+      (tt, fault_read line refused.0 end refused.3)
+  asked_read b line (Some (ForksTo i j)) Behind behind text end (inr run) each few =
+      let rest = each run.0 run.2 end run.4 (few_forked X b i j run.1 run.0 few run.3) in (
+        (
+          fork_read p line b i j run.1 (maker_few X b i j run.1 run.0 few run.3),
+          rest.0,
+        ),
         rest.1,
       )
 
@@ -274,6 +300,13 @@ module _ {S : Type 0} (X : Election (Elector S)) (P : Protocol S Bool Verdict) w
   refused_read refusal outcome whole is h =
       subst HasAllLines (sym h.1) (all_lines refusal (refusal_rows refusal is))
 
+  few_emptied : (m : Machine (Elector S)) (seat many : ℕ) (new : Machine (Elector S))
+      → Empties X P m seat many new → HasFew X m → HasFew X new
+  few_emptied m seat zero new run few = subst (HasFew X) (sym run) few
+  few_emptied m seat (suc many) new run few =
+      few_emptied run.0 (seat + 1) many new run.2
+      (few_kept X m (Gone seat) answer.Gone run.0 few run.1.happens)
+
   begins_read : (line : ℕ) (first : Option FirstLine) (lines : List (ℕ × List ℕ))
       (outcome : Outcome) (whole : List ℕ) → Begins X P line first lines outcome whole
       → HasAllLines whole
@@ -283,13 +316,19 @@ module _ {S : Type 0} (X : Election (Elector S)) (P : Protocol S Bool Verdict) w
       let name : List ℕ = make_fault_name no_bus.0 in
       refused_read (refusal_line (AtLine line) name) outcome whole
       (names_refusal (AtLine line) name (plain_make no_bus.0)) no_bus.3
-  begins_read line (Some first) lines outcome whole (inr h) =
-      let made = h.1 in
+  begins_read line (Some first) lines outcome whole (inr (inl no_seats)) =
+      refused_read (refusal_line (AtLine line) (codes "Seats")) outcome whole
+      (names_refusal (AtLine line) (codes "Seats") (plain_by (codes "Seats") refl)) no_seats.1
+  begins_read line (Some first) lines outcome whole (inr (inr h)) =
+      let opened = h.1 in
+      let made = opened.is_made in
       all_printed X P (sizes_of P (shape_in first) (reuse_in first) (passers_in first)) h.0 lines
-      outcome whole (
+      outcome whole
+      (few_emptied opened.made (shape_in first).receivers
+      (seats_in first - (shape_in first).receivers) h.0 opened.emptied (
         omega (arith, made.senders, made.served.senders.1),
         omega (arith, made.receivers, made.served.receivers.1),
-      ) h.2
+      )) h.2
 
   traces_read : (lines : List (ℕ × List ℕ)) (outcome : Outcome) (whole : List ℕ)
       → Traces X P lines outcome whole → HasAllLines whole

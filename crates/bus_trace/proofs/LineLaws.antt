@@ -1,8 +1,8 @@
 -- Each line of a trace has nine columns, of which the third names who is asked and the fifth a
 -- kind, a call or nothing.
-use Rattle.std.proofs.Common.{◌≡◌, ℕ, ◌+◌, ◌-◌, ◌/◌, ◌%◌, ◌==◌, ◌<◌, ◌≤◌, cond, Option, Some, None}
-use Rattle.std.proofs.Common.{List, [], ◌∷◌, ◌++◌, codes, decimal, flat_map, nat_lt, nat_le}
-use Rattle.std.proofs.Common.{slice_get, slice_index, refl, arith}
+use Rattle.std.proofs.Common.{◌≡◌, ℕ, ◌+◌, ◌-◌, ◌/◌, ◌%◌, ◌==◌, ◌<◌, ◌≤◌, Bool, true, false, cond}
+use Rattle.std.proofs.Common.{Option, Some, None, List, [], ◌∷◌, ◌++◌, codes, decimal, flat_map}
+use Rattle.std.proofs.Common.{nat_lt, nat_le, slice_get, slice_index, refl, arith}
 use Rattle.std.proofs.lemmas.List.Elements.{All-nil}
 use Rattle.bus_register.specs.declared.kinds.Kind.{Kind}
 use Rattle.bus_register.specs.declared.kinds.Kind.TheVariants as kind
@@ -29,7 +29,7 @@ use Rattle.bus_world.specs.Trails.{put_actions, mark_actions}
 use Rattle.bus_world.specs.World.{Event, Put, Ask, Turn, Recv, Stop, Gone}
 use Rattle.bus_world.specs.declared.events.Answer.{Answer}
 use Rattle.bus_world.specs.declared.events.Answer.TheVariants as answer
-use Rattle.bus_replay.specs.Text.{behind, answer_text}
+use Rattle.bus_replay.specs.Text.{behind, answer_text, fork_text}
 use Rattle.bus_picture.specs.declared.families.Family.{Family}
 use Rattle.bus_picture.specs.declared.families.Family.TheVariants as family
 use Rattle.bus_picture.specs.declared.processes.Process.TheVariants.{Sender, Receiver}
@@ -43,7 +43,7 @@ use Rattle.bus_trace.specs.Words.{TraceSizes, ratifier_word, round_word, decisio
 use Rattle.bus_trace.specs.Words.{word_name}
 use Rattle.bus_trace.specs.Rows.{tenure_text, no_step, step_text, action_text, actions_text}
 use Rattle.bus_trace.specs.Rows.{due_text, receiving_text, gone_text, leaving_text, sender_text}
-use Rattle.bus_trace.specs.Rows.{columns, row_text}
+use Rattle.bus_trace.specs.Rows.{columns, row_text, fork_op, joining_text, fork_columns, fork_row}
 
 -- ---- texts
 plain_behind : (n : ℕ) → IsPlain (behind n)
@@ -219,6 +219,10 @@ plain_answer (answer.Recv t) = plain_recv t
 plain_answer answer.Stopped = plain_by (codes "stopped") refl
 plain_answer answer.Gone = plain_by (codes "gone") refl
 
+plain_fork : (did : Bool) → IsPlain (fork_text did)
+plain_fork true = plain_by (codes "forked") refl
+plain_fork false = plain_by (codes "no seat") refl
+
 -- ---- tenure, kind, word, found and after
 dash : IsPlain (codes "-")
 dash = plain_by (codes "-") refl
@@ -307,6 +311,25 @@ of_leaver : (p : TraceSizes) (words : ℕ → ℕ) (v : Option Receiving)
 of_leaver p words None = of_gone p words None
 of_leaver p words (Some v) = of_gone p words (leaving_op v)
 
+of_joining : (p : TraceSizes) (words : ℕ → ℕ) (o : Option Op) → IsMiddle (joining_text p words o)
+of_joining p words None =
+    without_step (codes "fork") family.Call refl (plain_by (codes "fork") refl)
+of_joining p words (Some o) = record {
+  tenure = codes "-";
+  kind = codes "Fork";
+  word = word_name p (register o);
+  found = decimal (words (register o));
+  after = decimal (after o (words (register o)));
+  family = family.Exchange;
+  known = refl;
+  plain_tenure = dash;
+  plain_kind = plain_by (codes "Fork") refl;
+  plain_word = plain_word p (register o);
+  plain_found = plain_decimal (words (register o));
+  plain_after = plain_decimal (after o (words (register o)));
+  is = refl;
+}
+
 -- ---- who is asked, where a bus can have it
 abbrev pub AsksFew : Event → Type 0
 AsksFew (Put s bytes) = s < MOST_SENDERS
@@ -357,3 +380,10 @@ line_read p X line m (Gone r) a few =
     readable (decimal line) (codes "receiver" ++ behind r) (columns p X m (Gone r) a)
     (answer_text a) (plain_decimal line) (a_receiver r few)
     (of_leaver p (slice_index m.words) (slice_get m.receivers r)) (plain_answer a)
+
+pub fork_read : {E : Type 0} (p : TraceSizes) (line : ℕ) (m : Machine E) (i j : ℕ) (did : Bool)
+    → i < MOST_RECEIVERS → IsReadable (fork_row p line m i j did)
+fork_read p line m i j did few =
+    readable (decimal line) (codes "receiver" ++ behind i) (fork_columns p m i j) (fork_text did)
+    (plain_decimal line) (a_receiver i few)
+    (of_joining p (slice_index m.words) (fork_op m j (slice_get m.receivers i))) (plain_fork did)

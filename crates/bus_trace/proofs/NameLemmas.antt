@@ -226,6 +226,5 @@ module _ {S : Type 0} (P : Protocol S Bool Verdict) where
   named (Shaped shape) served = named_apart P shape
   named (Cycled shape) served =
       named_again P shape shape.rows 0 (let some = served.rows.0 in omega (arith, some))
-  named (Ringed shape) served =
-      named_again P shape shape.rows shape.receivers
-      (let some = served.rows.0 in omega (arith, some))
+  named (Ringed shape seats) served =
+      named_again P shape shape.rows seats (let some = served.rows.0 in omega (arith, some))

@@ -8,20 +8,19 @@ use Rattle.bus_tenure.specs.Core.{Election}
 use Rattle.bus_tenure.specs.Elections.{Elector}
 use Rattle.bus_world.specs.declared.events.StepFault.{StepFault}
 use Rattle.bus_machine.specs.Machine.{Machine}
-use Rattle.bus_world.specs.World.{no_bases}
-use Rattle.bus_machine.specs.Playing.{IsMadeWith, Refused as RefusedBy}
 use Rattle.bus_script.specs.declared.answers.Outcome.{Outcome}
 use Rattle.bus_script.specs.declared.answers.Outcome.TheVariants as outcome
 use Rattle.bus_script.specs.declared.line_numbers.LineNumber.TheVariants.{AtLine}
 use Rattle.bus_script.specs.LineNumbers.{refusal_line}
 use Rattle.bus_replay.specs.declared.lines.FirstLine.{FirstLine}
-use Rattle.bus_replay.specs.Lines.{Command, command_of, shape_in, reuse_in, passers_in}
-use Rattle.bus_replay.specs.Text.{answer_line, step_fault_name}
-use Rattle.bus_replay.specs.Answers.{End, Left, Stopped, Asked, Prints}
-use Rattle.bus_trace.specs.Rows.{header}
+use Rattle.bus_replay.specs.Lines.{Command, Plays, ForksTo, command_of, shape_in, reuse_in}
+use Rattle.bus_replay.specs.Lines.{passers_in}
+use Rattle.bus_replay.specs.Text.{answer_line, fork_line, step_fault_name}
+use Rattle.bus_replay.specs.Answers.{End, Left, Stopped, Asked, Prints, IsOpened}
+use Rattle.bus_trace.specs.Rows.{header, fork_row}
 use Rattle.bus_trace.specs.Traces.{repeat_rows, asked_rows, printed_rows, numbered_rows}
 use Rattle.bus_trace.specs.Traces.{ArePrinted, Begins}
-use Rattle.bus_trace.specs.Obeying.{Grows, IsRepeated, IsObeyed, ArePlayed}
+use Rattle.bus_trace.specs.Obeying.{Grows, IsDone, IsObeyed, ArePlayed}
 use Rattle.bus_trace.specs.Words.{TraceSizes, sizes_of}
 use Rattle.bus_trace.proofs.RowLemmas.{grown_more, grown_none}
 
@@ -39,35 +38,36 @@ module _ {S : Type 0} (X : Election (Elector S)) (P : Protocol S Bool Verdict)
   -- ---- one line
   module _ (b : Machine (Elector S)) (line : ℕ × List ℕ) (b' : Machine (Elector S)) (old : List ℕ)
       (before : ℕ) where
-    -- whatever is played behind a line whose command was answered, its lines stand before those of
-    -- that
-    behind_answered : (o : Option Command) (c : Command) (new : List ℕ) (after : ℕ) → Some c ≡ o
-        → IsRepeated X P p line.0 b c.event
-        (c.times - 1) old before new after None b'
-        → (printed : List ℕ) × (rows : List (List ℕ)) × Grows old before new after rows
+    -- a line that asks for this was answered: whatever is played behind it, its lines stand before
+    -- those of that
+    abbrev IsAnswered : Option Command → List ℕ → ℕ → Type 1
+    IsAnswered o new after =
+        (printed : List ℕ) × (rows : List (List ℕ)) × Grows old before new after rows
         × ((Behind : Behinds) (behind : Rows Behind) (rest : List ℕ) (end : End (Elector S))
         (run : Behind b' rest end)
         → (whole : Asked X P b line.0 o Behind (printed ++ rest) end)
         × (asked_rows X P p b line.0 o Behind behind (printed ++ rest) end
         whole ≡ rows ++ behind b' rest end run))
-    behind_answered None c new after is h = absurd cc
-    behind_answered (Some d) c new after is h =
-        subst (λ o. (printed : List ℕ) × (rows : List (List ℕ)) × Grows old before new after rows
-        × ((Behind : Behinds) (behind : Rows Behind) (rest : List ℕ) (end : End (Elector S))
-        (run : Behind b' rest end)
-        → (whole : Asked X P b line.0 o Behind (printed ++ rest) end)
-        × (asked_rows X P p b line.0 o Behind behind (printed ++ rest) end
-        whole ≡ rows ++ behind b' rest end run))) is (
-          answer_line c.event h.0,
-          repeat_rows X P p line.0 b c.event (c.times - 1) h.0 b' h.1,
+
+    behind_answered : (o : Option Command) (c : Command) (new : List ℕ) (after : ℕ) → Some c ≡ o
+        → IsDone X P p line.0 b c old before new after None b' → IsAnswered o new after
+    behind_answered o (Plays event times) new after is h =
+        subst (λ z. IsAnswered z new after) is (
+          answer_line event h.0,
+          repeat_rows X P p line.0 b event (times - 1) h.0 b' h.1,
           h.2,
-          λ Behind behind rest end run.
-              (inr (b', h.0, rest, h.1, run, refl), refl),
+          λ Behind behind rest end run. (inr (b', h.0, rest, h.1, run, refl), refl),
+        )
+    behind_answered o (ForksTo i j) new after is h =
+        subst (λ z. IsAnswered z new after) is (
+          fork_line i j h.0,
+          fork_row p line.0 b i j h.0 ∷ [],
+          h.2,
+          λ Behind behind rest end run. (inr (b', h.0, rest, h.1, run, refl), refl),
         )
 
     pub answered : (c : Command) (new : List ℕ) (after : ℕ) → Some c ≡ command_of line.1
-        → IsRepeated X P p line.0 b c.event
-        (c.times - 1) old before new after None b'
+        → IsDone X P p line.0 b c old before new after None b'
         → IsObeyed X P p b line old before new after outcome.Done b'
     answered c new after is h =
         let d = behind_answered (command_of line.1) c new after is h in (
@@ -79,37 +79,40 @@ module _ {S : Type 0} (X : Election (Elector S)) (P : Protocol S Bool Verdict)
               P p mid lines more stop behind) rest end run,
         )
 
-    -- a command that was refused
-    fault_asked : (o : Option Command) (c : Command) (why : StepFault) → Some c ≡ o
-        → RefusedBy b c.event why
-        → (Behind : Behinds) (behind : Rows Behind)
+    -- a line that asks for this was refused: no line is put
+    abbrev IsFaulty : Option Command → StepFault → Type 1
+    IsFaulty o why =
+        (Behind : Behinds) (behind : Rows Behind)
         → (whole : Asked X P b line.0 o Behind []
         (Stopped (refusal_line (AtLine line.0) (step_fault_name why))))
         × (asked_rows X P p b line.0 o Behind behind []
         (Stopped (refusal_line (AtLine line.0) (step_fault_name why))) whole ≡ [])
-    fault_asked None c why is h Behind behind = absurd cc
-    fault_asked (Some d) c why is h Behind behind =
-        subst
-        (λ o.
-        (whole : Asked X P b line.0 o Behind []
-        (Stopped (refusal_line (AtLine line.0) (step_fault_name why))))
-        × (asked_rows X P p b line.0 o Behind behind []
-        (Stopped (refusal_line (AtLine line.0) (step_fault_name why))) whole ≡ [])) is
-        (inl (why, h, refl, refl), refl)
 
-    pub refused : (c : Command) (why : StepFault) (mid new : List ℕ) (after : ℕ)
-        → Some c ≡ command_of line.1 → RefusedBy b c.event why
-        → mid ≡ old
-        → new ≡ mid ++ refusal_line (AtLine line.0) (step_fault_name why)
-        → IsObeyed X P p b line old before new after outcome.Refused b'
-    refused c why mid new after is h same text = (
-      refusal_line (AtLine line.0) (step_fault_name why),
-      text ∙ ap (λ (l : List ℕ). l ++ refusal_line (AtLine line.0)
-          (step_fault_name why)) same,
-      λ lines.
-          fault_asked (command_of line.1) c why is h (λ m more stop. Prints X P m lines more stop)
-          (λ m more stop behind. printed_rows X P p m lines more stop behind),
-    )
+    module _ (why : StepFault) (mid : List ℕ) (between : ℕ) where
+      fault_asked : (o : Option Command) (c : Command) → Some c ≡ o
+          → IsDone X P p line.0 b c old before mid between (Some why) b' → IsFaulty o why
+      fault_asked o (Plays event times) is h =
+          subst (λ z. IsFaulty z why) is (λ Behind behind. (inl (why, h.0, refl, refl), refl))
+      fault_asked o (ForksTo i j) is h =
+          subst (λ z. IsFaulty z why) is (λ Behind behind. (inl (why, h.0, refl, refl), refl))
+
+      nothing_put : (c : Command)
+          → IsDone X P p line.0 b c old before mid between (Some why) b' → mid ≡ old
+      nothing_put (Plays event times) h = h.1
+      nothing_put (ForksTo i j) h = h.1
+
+      pub refused : (c : Command) (new : List ℕ) (after : ℕ) → Some c ≡ command_of line.1
+          → IsDone X P p line.0 b c old before mid between (Some why) b'
+          → new ≡ mid ++ refusal_line (AtLine line.0) (step_fault_name why)
+          → IsObeyed X P p b line old before new after outcome.Refused b'
+      refused c new after is h text = (
+        refusal_line (AtLine line.0) (step_fault_name why),
+        text ∙ ap (λ (l : List ℕ). l ++ refusal_line (AtLine line.0)
+            (step_fault_name why)) (nothing_put c h),
+        λ lines.
+            fault_asked (command_of line.1) c is h (λ m more stop. Prints X P m lines more stop)
+            (λ m more stop behind. printed_rows X P p m lines more stop behind),
+      )
 
   -- ---- all lines
   module _ (b : Machine (Elector S)) (lines : List (ℕ × List ℕ)) (old : List ℕ) (before : ℕ) where
@@ -245,12 +248,11 @@ module _ {S : Type 0} (X : Election (Elector S)) (P : Protocol S Bool Verdict)
 pub begun : {S : Type 0} (X : Election (Elector S)) (P : Protocol S Bool Verdict) (p : TraceSizes)
     (line : ℕ) (first : FirstLine)
     (lines : List (ℕ × List ℕ)) (b : Machine (Elector S)) (o : Outcome) (whole : List ℕ)
-    → IsMadeWith X P (shape_in first) (reuse_in first) (passers_in first) no_bases b
-    → p ≡ sizes_of P (shape_in first) (reuse_in first) (passers_in first)
+    → IsOpened X P first b → p ≡ sizes_of P (shape_in first) (reuse_in first) (passers_in first)
     → ArePrinted X P p b lines o whole
     → Begins X P line (Some first) lines o whole
-begun X P p line first lines b o whole made sizes rows = inr (
+begun X P p line first lines b o whole opened sizes rows = inr (inr (
   b,
-  made,
+  opened,
   subst (λ q. ArePrinted X P q b lines o whole) sizes rows,
-)
+))

@@ -16,16 +16,19 @@ use Rattle.bus_tenure.specs.Core.{Election}
 use Rattle.bus_world.specs.Trails.{put_actions, mark_actions}
 use Rattle.bus_world.specs.World.{Event, Put, Ask, Turn, Recv, Stop, Gone}
 use Rattle.bus_world.specs.declared.events.Answer.{Answer}
-use Rattle.bus_replay.specs.Text.{answer_text}
+use Rattle.bus_replay.specs.Text.{answer_text, fork_text, behind}
 use Rattle.bus_register.specs.Words.{register}
 use Rattle.bus_trace.specs.declared.seen.Seen.{Seen}
+use Rattle.bus_trace.specs.declared.seen.SeenWord.{SeenWord}
 use Rattle.bus_trace.specs.Words.{TraceSizes, word_name}
 use Rattle.bus_register.specs.Names.{kind_name}
 use Rattle.bus_trace.specs.Rows.{column, tenure_text, no_step, actions_text, due_text}
 use Rattle.bus_trace.specs.Rows.{receiving_text, gone_text, leaving_text, sender_text, who_text}
-use Rattle.bus_trace.specs.Rows.{columns, row_text}
+use Rattle.bus_trace.specs.Rows.{columns, row_text, fork_op, joining_text, fork_row}
 use Rattle.bus_trace.specs.Steps.{step_of, sender_due, receiver_due, leaver_due, due_by, seen_in}
+use Rattle.bus_trace.specs.Steps.{word_in}
 use Rattle.bus_trace.specs.Told.{name_told, seen_columns, seen_told, row_told, numbered_row}
+use Rattle.bus_trace.specs.Told.{word_columns, fork_told}
 use Rattle.bus_trace.specs.Traces.{numbered_rows}
 use Rattle.bus_trace.specs.Obeying.{Grows}
 
@@ -95,6 +98,22 @@ row_is p X line m m' e a h seen is =
     ap (λ k. row_told p line e k a) is
     ∙ ap (λ (l : List ℕ). column (decimal line) ++ who_text e ++ l ++
     answer_text a) (sym (columns_told p X m m' e a h))
+
+-- of a fork
+joining_told : (p : TraceSizes) (words : ℕ → ℕ) (o : Option Op)
+    → word_columns p (word_in words o) ≡ joining_text p words o
+joining_told p words None = refl
+joining_told p words (Some o) = refl
+
+pub fork_row_is : {E : Type 0} (p : TraceSizes) (line i j : ℕ) (m : Machine E) (did : Bool)
+    (word : Option SeenWord)
+    → word ≡ word_in (slice_index m.words) (fork_op m j (slice_get m.receivers i))
+    → fork_told p line i word did ≡ fork_row p line m i j did
+fork_row_is p line i j m did word is =
+    ap (λ w. fork_told p line i w did) is
+    ∙ ap (λ (l : List ℕ). column (decimal line) ++ column (codes "receiver" ++ behind i) ++ l
+    ++ fork_text did)
+    (joining_told p (slice_index m.words) (fork_op m j (slice_get m.receivers i)))
 
 -- ---- lines one after another
 numbered_more : (from : ℕ) (rows more : List (List ℕ))

@@ -13,17 +13,17 @@ use Rattle.bus_register.specs.declared.kinds.Kind.TheVariants.{StorePassed}
 use Rattle.bus_register.specs.declared.limits.TheConstants.{PASSED_ALL}
 use Rattle.bus_batch.specs.declared.messages.Mark.TheVariants as mark
 use Rattle.bus_register.specs.declared.registers.Op.{Op}
-use Rattle.bus_register.specs.declared.registers.Op.TheVariants.{Store}
+use Rattle.bus_register.specs.declared.registers.Op.TheVariants.{Store, Cas}
 use Rattle.bus_register.specs.Names.{kind_name}
 use Rattle.bus_register.specs.Words.{register, after as left_by}
 use Rattle.bus_core.specs.Senders.{Sender, Situation, Does, Announces, Validates, Unpins}
 use Rattle.bus_core.specs.Senders.{Withdraws, Scans, Clears, ReadsPassed, situation}
 use Rattle.bus_core.specs.Table.{Line, line, line_now}
 use Rattle.bus_deliverylog.specs.Receiving.{due_kind, due_op, receiving_op, leaving_by}
-use Rattle.bus_deliverylog.specs.Receiving.{leaving_op}
+use Rattle.bus_deliverylog.specs.Receiving.{Receiving, leaving_op, joining_by}
 use Rattle.bus_machine.specs.Machine.{Machine, Trails, no_machine_trails, entered, turn_trails}
 use Rattle.bus_machine.specs.Machine.{turn_grown, turn_answer, going, IsOnWord}
-use Rattle.bus_machine.specs.Machine.{TakesTurn, Hears, LeavesForGood}
+use Rattle.bus_machine.specs.Machine.{TakesTurn, Hears, LeavesForGood, Forks, passed_by}
 use Rattle.bus_machine.specs.Playing.{Answers}
 use Rattle.bus_machine.specs.Telling.{SenderCauses}
 use Rattle.bus_presence.specs.Reclamation.{Entry, no_trails}
@@ -39,9 +39,10 @@ use Rattle.bus_world.specs.declared.events.Answer.{Answer}
 use Rattle.bus_world.specs.declared.events.Answer.TheVariants as answer
 use Rattle.bus_trace.specs.Rows.{action_text, actions_text, due_text, line_text, receiving_text}
 use Rattle.bus_trace.specs.Rows.{sender_text, gone_text, leaving_text, step_text, tenure_text}
-use Rattle.bus_trace.specs.Rows.{no_step, column, columns}
+use Rattle.bus_trace.specs.Rows.{no_step, column, columns, fork_op, joining_text, fork_columns}
 use Rattle.bus_trace.specs.Showing.{added, answer_of, entry_text, AddsOne, ShowsEvent, ShowsHeard}
-use Rattle.bus_trace.specs.Showing.{ShowsGone, ShowsNone, ShowsStep, ShowsTurn, Shows, ShowsWho}
+use Rattle.bus_trace.specs.Showing.{ShowsFork, ShowsGone, ShowsNone, ShowsStep, ShowsTurn}
+use Rattle.bus_trace.specs.Showing.{ShowsWord, Shows, ShowsWho}
 use Rattle.bus_trace.specs.Words.{TraceSizes, word_name}
 use Rattle.bus_trace.proofs.StepLemmas.{due_stays, tenure_is, stood}
 
@@ -241,28 +242,79 @@ due_none p words tenure (Some k) = refl
 
 module _ {E : Type 0} (p : TraceSizes) (old new : Machine E) (text : List ℕ) where
   -- what stood in its word and what stands there now are shown
-  step_taken : (tenure : Option ℕ) (k : Kind) (o : Op) → register o < length old.words
+  word_taken : (tenure kind : List ℕ) (o : Op) → register o < length old.words
       → new.words ≡ words_after old.words (Some o)
-      → text ≡ step_text p tenure k (slice_index old.words (register o)) (Some o)
-      → ShowsStep p old new tenure k (register o) text
-  step_taken tenure k o within words is =
+      → text
+      ≡ column tenure ++ column kind ++ column (word_name p (register o))
+      ++ column (decimal (slice_index old.words (register o)))
+      ++ column (decimal (left_by o (slice_index old.words (register o))))
+      → ShowsWord p old new tenure kind (register o) text
+  word_taken tenure kind o within words is =
       let at : ℕ = register o in
       let found : ℕ = slice_index old.words at in
       let stands : slice_index new.words at ≡ left_by o found =
       ap (λ w. slice_index w at) words ∙ stood old.words o within in
       record {
         shown = is
-            ∙ ap (λ n. column (tenure_text tenure) ++ column (kind_name k) ++
-            column (word_name p at) ++ column (decimal found) ++ column (decimal n)) (sym stands);
+            ∙ ap (λ n. column tenure ++ column kind ++ column (word_name p at)
+            ++ column (decimal found) ++ column (decimal n)) (sym stands);
         others = λ place apart. ap (λ w. slice_index w place) words
             ∙ get_or-set_other old.words at place (left_by o found) 0 apart;
       }
+
+  step_taken : (tenure : Option ℕ) (k : Kind) (o : Op) → register o < length old.words
+      → new.words ≡ words_after old.words (Some o)
+      → text ≡ step_text p tenure k (slice_index old.words (register o)) (Some o)
+      → ShowsStep p old new tenure k (register o) text
+  step_taken tenure k o within words is =
+      word_taken (tenure_text tenure) (kind_name k) o within words is
 
   -- without a step no word has changed
   none_taken : (name : List ℕ) (o : Option Op) → o ≡ None → new.words ≡ words_after old.words o
       → text ≡ no_step name → ShowsNone old new name text
   none_taken name o none words is =
       record { shown = is; words = words ∙ ap (words_after old.words) none }
+
+-- ---- a fork
+module _ {E : Type 0} (p : TraceSizes) (m : Machine E) (i j : ℕ) (did : Bool) (new : Machine E)
+    (h : Forks m i j did new) where
+  -- its step is by the passed place of the new number
+  fork_text_is : (place : Option ℕ) → passed_by m.layout m.reuse j ≡ place
+      → fork_columns p m i j
+      ≡ joining_text p (slice_index m.words) (joining_by place h.maker.passed)
+  fork_text_is place is =
+      ap (λ v. joining_text p (slice_index m.words) (fork_op m j v)) h.there
+      ∙ ap (λ q. joining_text p (slice_index m.words) (joining_by q h.maker.passed)) is
+
+  fork_words : (place : Option ℕ) → passed_by m.layout m.reuse j ≡ place
+      → new.words ≡ words_after m.words (joining_by place h.maker.passed)
+  fork_words place is =
+      ap (λ (y : Machine E). y.words) h.after
+      ∙ ap (λ q. words_after m.words (joining_by q h.maker.passed)) is
+
+  fork_within : (place : Option ℕ) → passed_by m.layout m.reuse j ≡ place
+      → IsOnWord m (joining_by place h.maker.passed)
+  fork_within place is = subst (λ q. IsOnWord m (joining_by q h.maker.passed)) is h.within
+
+  pub fork_shown : ShowsFork p m i j did new
+  fork_shown = record {
+    step = λ at is. word_taken p m new (fork_columns p m i j) (codes "-") (codes "Fork")
+        (Cas (record { 0 = at }) PASSED_ALL h.maker.passed) (fork_within (Some at) is)
+        (fork_words (Some at) is) (fork_text_is (Some at) is);
+    done = λ v at there is. (
+      h.finds at is,
+      ap (λ w. slice_index w at) (fork_words (Some at) is)
+          ∙ stood m.words (Cas (record { 0 = at }) PASSED_ALL h.maker.passed)
+          (fork_within (Some at) is)
+          ∙ ap (λ b. cond b h.maker.passed (slice_index m.words at)) (sym (h.finds at is))
+          ∙ ap (λ (u : Receiving). cond did u.passed (slice_index m.words at))
+          (same_Some h.maker v (sym h.there ∙ there)),
+    );
+    none = λ is. record {
+      shown = fork_text_is None is;
+      words = fork_words None is;
+    };
+  }
 
 -- ---- an event
 module _ {S : Type 0} (p : TraceSizes) (X : Election (Elector S)) (P : Protocol S Bool Verdict)

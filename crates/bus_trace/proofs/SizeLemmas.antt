@@ -8,6 +8,7 @@ use Rattle.bus_ownerbits.specs.Sizes.{bits_of}
 use Rattle.bus_replay.specs.declared.lines.FirstLine.{FirstLine}
 use Rattle.bus_replay.specs.declared.lines.FirstLine.TheVariants.{Shape as Shaped, Cycle as Cycled}
 use Rattle.bus_replay.specs.declared.lines.FirstLine.TheVariants.{Ring as Ringed}
+use Rattle.bus_replay.specs.Answers.{AreSeats}
 use Rattle.bus_replay.specs.Lines.{shape_in, reuse_in}
 use Rattle.bus_world.specs.declared.shapes.Shape.{Shape}
 
@@ -44,18 +45,19 @@ few_again first shape is served =
       passers_few = omega arith;
     }
 
-pub few_in_ring : (first : FirstLine) (shape : Shape) → first ≡ Ringed shape
-    → IsServed (shape_in first) (reuse_in first)
-    → AreFew shape shape.senders shape.receivers
-few_in_ring first shape is served =
+pub few_in_ring : (first : FirstLine) (shape : Shape) (seats : ℕ) → first ≡ Ringed shape seats
+    → IsServed (shape_in first) (reuse_in first) → AreSeats first
+    → AreFew shape shape.senders seats
+few_in_ring first shape seats is served enough =
     let s : IsServed shape (Some shape.rows) =
     subst (λ f. IsServed (shape_in f) (reuse_in f)) is served in
+    let few : AreSeats (Ringed shape seats) = subst AreSeats is enough in
     record {
       senders = s.senders.1;
       rounds = s.rounds.1;
       rows = (let few = s.rows.1 in omega arith);
       presences_few = s.senders.1;
-      passers_few = s.receivers.1;
+      passers_few = few.1;
     }
 
 pub rows_fit : (shape : Shape) (presences passers w width : ℕ) → AreFew shape presences passers

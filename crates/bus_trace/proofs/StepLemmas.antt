@@ -7,7 +7,10 @@ use Rattle.std.proofs.lemmas.Option.{same_Some}
 use Rattle.bus_register.specs.Protocol.{Protocol}
 use Rattle.bus_register.specs.declared.kinds.Kind.{Kind}
 use Rattle.bus_register.specs.declared.kinds.Kind.TheVariants as kind
+use Rattle.bus_register.specs.declared.limits.TheConstants.{PASSED_ALL}
 use Rattle.bus_register.specs.declared.registers.Op.{Op}
+use Rattle.bus_register.specs.declared.registers.Op.TheVariants.{Cas}
+use Rattle.bus_register.specs.declared.registers.Reg.{Reg}
 use Rattle.bus_register.specs.Words.{register, after}
 use Rattle.bus_adoptcommit.specs.declared.verdicts.Verdict.{Verdict}
 use Rattle.bus_core.specs.Causes.{HasCause}
@@ -20,7 +23,9 @@ use Rattle.bus_core.specs.declared.reuses.Passing.{Passing}
 use Rattle.bus_core.specs.Table.{line, line_now}
 use Rattle.bus_core.specs.declared.reuses.Reuse.{Reuse}
 use Rattle.bus_deliverylog.specs.Receiving.{Receiving, due_kind, due_op, receiving_op, leaving_op}
-use Rattle.bus_machine.specs.Machine.{Machine, Happens, IsOnWord, has_stopped}
+use Rattle.bus_deliverylog.specs.Receiving.{leaving_by, joining_by}
+use Rattle.bus_machine.specs.Machine.{Machine, Happens, Forks, IsOnWord, ShowsPassed}
+use Rattle.bus_machine.specs.Machine.{has_stopped, passed_by}
 use Rattle.bus_presence.specs.Reclaimers.{Reclaiming}
 use Rattle.bus_presence.specs.declared.pins.Pin.{Pin}
 use Rattle.bus_presence.specs.declared.pins.Pin.TheVariants.{Away, Announcing, Validating, Pinned}
@@ -42,7 +47,9 @@ use Rattle.bus_world.specs.Turning.{words_after}
 use Rattle.bus_world.specs.World.{Event, Put, Ask, Turn, Recv, Stop, Gone}
 use Rattle.bus_world.specs.declared.events.Answer.{Answer}
 use Rattle.bus_trace.specs.declared.seen.Step.{Step}
+use Rattle.bus_trace.specs.Rows.{fork_op}
 use Rattle.bus_trace.specs.Steps.{step_of, sender_due, receiver_due, leaver_due, due_by, seen_in}
+use Rattle.bus_trace.specs.Steps.{word_in}
 use Rattle.bus_trace.proofs.RowLemmas.{there}
 
 -- ---- the tenure
@@ -271,3 +278,62 @@ seen_so words due step found left is f l =
     ap (λ n. Some record { step = step; found = n; left = left }) f
     ∙ ap (λ n. Some record { step = step; found = words (register step.op); left = n }) l
     ∙ ap (seen_in words) is
+
+-- ---- a fork: its step is on the word in which the last receiver of its number would say that it
+-- leaves
+module _ {E : Type 0} (m new : Machine E) (i j : ℕ) (did : Bool) (passes : ShowsPassed m)
+    (h : Forks m i j did new) where
+  last_place : passed_by m.layout m.reuse j ≡ h.last.passed_at
+  last_place = sym (passes j h.last h.was).0
+
+  fork_step : fork_op m j (slice_get m.receivers i) ≡ joining_by h.last.passed_at h.maker.passed
+  fork_step =
+      ap (fork_op m j) h.there ∙ ap (λ place. joining_by place h.maker.passed) last_place
+
+  leaver_is : leaver_due (slice_get m.receivers j)
+      ≡ step_of None (Some kind.StorePassed) (leaving_by h.last.passed_at)
+  leaver_is = ap leaver_due h.was
+
+  no_word : (place : Option ℕ)
+      → None ≡ step_of None (Some kind.StorePassed) (leaving_by place)
+      → None ≡ word_in (slice_index m.words) (joining_by place h.maker.passed)
+  no_word None is = refl
+  no_word (Some at) is = absurd cc
+
+  pub none_seen : None ≡ leaver_due (slice_get m.receivers j)
+      → None ≡ word_in (slice_index m.words) (fork_op m j (slice_get m.receivers i))
+  none_seen is =
+      no_word h.last.passed_at (is ∙ leaver_is)
+      ∙ ap (word_in (slice_index m.words)) (sym fork_step)
+
+  -- what is seen of that word, before it and behind it
+  module _ (step : Step) (at : Reg) (found left : ℕ) (on : at.0 ≡ register step.op)
+      (finds : found ≡ slice_index m.words at.0) (leaves : left ≡ slice_index new.words at.0) where
+    one_word : (place : Option ℕ) → h.last.passed_at ≡ place
+        → Some step ≡ step_of None (Some kind.StorePassed) (leaving_by place)
+        → Some (record { at = at; found = found; left = left })
+        ≡ word_in (slice_index m.words) (joining_by place h.maker.passed)
+    one_word None same is = absurd cc
+    one_word (Some place) same is =
+        let words = slice_index m.words in
+        let o : Op = Cas (record { 0 = place }) PASSED_ALL h.maker.passed in
+        let op_is : joining_by (passed_by m.layout m.reuse j) h.maker.passed ≡ Some o =
+        ap (λ q. joining_by q h.maker.passed) (last_place ∙ same) in
+        let there : at.0 ≡ place =
+        on ∙ ap (λ (s : Step). register s.op) (same_Some _ _ is) in
+        let stands : slice_index new.words place ≡ after o (words place) =
+        ap (λ (y : Machine E). slice_index y.words place) h.after
+        ∙ ap (λ q. slice_index (words_after m.words q) place) op_is
+        ∙ stood m.words o (subst (IsOnWord m) op_is h.within) in
+        ap (λ n. Some record { at = record { 0 = n }; found = found; left = left }) there
+        ∙ ap (λ n. Some record { at = record { 0 = place }; found = n; left = left })
+        (finds ∙ ap words there)
+        ∙ ap (λ n. Some record { at = record { 0 = place }; found = words place; left = n })
+        (leaves ∙ ap (slice_index new.words) there ∙ stands)
+
+    pub word_seen : Some step ≡ leaver_due (slice_get m.receivers j)
+        → Some (record { at = at; found = found; left = left })
+        ≡ word_in (slice_index m.words) (fork_op m j (slice_get m.receivers i))
+    word_seen is =
+        one_word h.last.passed_at refl (is ∙ leaver_is)
+        ∙ ap (word_in (slice_index m.words)) (sym fork_step)

@@ -1,18 +1,21 @@
 -- How a program that goes through the lines of a script extends a trace.
-use Rattle.std.specs.Prelude.{◌≡◌, ◌+◌, ◌*◌, ◌≤◌, ℕ, Bool, Option, Some, None, List, [], ◌∷◌, ◌++◌}
-use Rattle.std.specs.Prelude.{length}
+use Rattle.std.specs.Prelude.{◌≡◌, ◌+◌, ◌-◌, ◌*◌, ◌≤◌, ℕ, Bool, Option, Some, None, List, []}
+use Rattle.std.specs.Prelude.{◌∷◌, ◌++◌, length, slice_get}
 use Rattle.bus_register.specs.Protocol.{Protocol}
 use Rattle.bus_adoptcommit.specs.declared.verdicts.Verdict.{Verdict}
 use Rattle.bus_tenure.specs.Core.{Election}
 use Rattle.bus_tenure.specs.Elections.{Elector}
+use Rattle.bus_world.specs.Playing.{ForkRefused}
 use Rattle.bus_world.specs.World.{Event}
 use Rattle.bus_world.specs.declared.events.Answer.{Answer}
 use Rattle.bus_world.specs.declared.events.StepFault.{StepFault}
-use Rattle.bus_machine.specs.Machine.{Machine}
+use Rattle.bus_machine.specs.Machine.{Machine, Forks}
 use Rattle.bus_machine.specs.Playing.{Refused as RefusedBy}
 use Rattle.bus_script.specs.declared.answers.Outcome.{Outcome}
 use Rattle.bus_script.specs.declared.answers.Outcome.TheVariants.{Done, Refused}
+use Rattle.bus_replay.specs.Lines.{Command, Plays, ForksTo}
 use Rattle.bus_replay.specs.Answers.{End, Left, Stopped, Repeats, Prints}
+use Rattle.bus_trace.specs.Rows.{fork_row}
 use Rattle.bus_trace.specs.Traces.{repeat_rows, printed_rows, numbered_rows}
 use Rattle.bus_trace.specs.Words.{TraceSizes}
 
@@ -37,6 +40,25 @@ module _ {S : Type 0} (X : Election (Elector S)) (P : Protocol S Bool Verdict)
       (last : Answer) × (run : Repeats X P m e more last m')
       × Grows old before new after (repeat_rows X P p line m e more last m' run)
   IsRepeated line m e more old before new after (Some why) m' = RefusedBy m e why × (new ≡ old)
+
+  -- a receiver forked, or found no seat, and the line of that was put; or it was refused
+  abbrev pub IsForked : ℕ → Machine (Elector S) → (i j : ℕ)
+      → (old : List ℕ) (before : ℕ) (new : List ℕ) (after : ℕ) → Option StepFault
+      → Machine (Elector S) → Type 0
+  IsForked line m i j old before new after None m' =
+      (did : Bool) × Forks m i j did m'
+      × Grows old before new after (fork_row p line m i j did ∷ [])
+  IsForked line m i j old before new after (Some why) m' =
+      ForkRefused (slice_get m.receivers i) (slice_get m.receivers j) i j why × (new ≡ old)
+
+  -- a command was done, or refused at once
+  abbrev pub IsDone : ℕ → Machine (Elector S) → Command
+      → (old : List ℕ) (before : ℕ) (new : List ℕ) (after : ℕ) → Option StepFault
+      → Machine (Elector S) → Type 0
+  IsDone line m (Plays event times) old before new after refused m' =
+      IsRepeated line m event (times - 1) old before new after refused m'
+  IsDone line m (ForksTo i j) old before new after refused m' =
+      IsForked line m i j old before new after refused m'
 
   -- A line was obeyed, and whatever is played behind it, its lines stand before those of that; or
   -- it was refused, and this is its refusal.

@@ -1,6 +1,6 @@
 -- The lines of a trace: who took which step, what it found, what stands after it, and what was
 -- answered.
-use Rattle.std.specs.Prelude.{ℕ, Option, Some, None, List, [], ◌∷◌, ◌++◌, codes, decimal}
+use Rattle.std.specs.Prelude.{ℕ, Bool, Option, Some, None, List, [], ◌∷◌, ◌++◌, codes, decimal}
 use Rattle.std.specs.Prelude.{slice_get, slice_index}
 use Rattle.bus_register.specs.declared.kinds.Kind.{Kind}
 use Rattle.bus_register.specs.declared.kinds.Kind.TheVariants.{StorePassed}
@@ -10,14 +10,14 @@ use Rattle.bus_register.specs.Words.{register, after}
 use Rattle.bus_batch.specs.declared.messages.Mark.TheVariants as mark
 use Rattle.bus_core.specs.Senders.{Sender}
 use Rattle.bus_core.specs.Table.{Line, line_now}
-use Rattle.bus_deliverylog.specs.Receiving.{Receiving, due_kind, due_op, leaving_op}
-use Rattle.bus_machine.specs.Machine.{Machine, going}
+use Rattle.bus_deliverylog.specs.Receiving.{Receiving, due_kind, due_op, leaving_op, joining_op}
+use Rattle.bus_machine.specs.Machine.{Machine, going, fork_in}
 use Rattle.bus_tenure.specs.Core.{Election}
 use Rattle.bus_world.specs.Headline.{Action, HasPut, HasMarked, Stepped}
 use Rattle.bus_world.specs.Trails.{put_actions, mark_actions}
 use Rattle.bus_world.specs.World.{Event, Put, Ask, Turn, Recv, Stop, Gone}
 use Rattle.bus_world.specs.declared.events.Answer.{Answer}
-use Rattle.bus_replay.specs.Text.{behind, answer_text}
+use Rattle.bus_replay.specs.Text.{behind, answer_text, fork_text}
 use Rattle.bus_trace.specs.Words.{TraceSizes, word_name}
 
 -- a text between two tabs
@@ -115,3 +115,28 @@ columns p X m (Gone r) a = leaving_text p (slice_index m.words) (slice_get m.rec
 abbrev pub row_text : {E : Type 0} → TraceSizes → Election E → ℕ → Machine E → Event → Answer
     → List ℕ
 row_text p X line m e a = column (decimal line) ++ who_text e ++ columns p X m e a ++ answer_text a
+
+-- ---- forks
+-- the step with which this receiver forks to number j, if it takes one: a compare_exchange in the
+-- passed place of that number
+abbrev pub fork_op : {E : Type 0} → Machine E → ℕ → Option Receiving → Option Op
+fork_op m j None = None
+fork_op m j (Some v) = joining_op (fork_in m j v)
+
+-- tenure, kind, word, found and after of a fork by this step; without one it is no step, but a call
+abbrev pub joining_text : TraceSizes → (ℕ → ℕ) → Option Op → List ℕ
+joining_text p words None = no_step (codes "fork")
+joining_text p words (Some o) =
+    column (codes "-") ++ column (codes "Fork") ++ column (word_name p (register o))
+    ++ column (decimal (words (register o))) ++ column (decimal (after o (words (register o))))
+
+-- where receiver i forks to number j
+abbrev pub fork_columns : {E : Type 0} → TraceSizes → Machine E → (i j : ℕ) → List ℕ
+fork_columns p m i j =
+    joining_text p (slice_index m.words) (fork_op m j (slice_get m.receivers i))
+
+-- the line of a fork that a line of a script asks for, which was done or not, without its number
+abbrev pub fork_row : {E : Type 0} → TraceSizes → ℕ → Machine E → (i j : ℕ) → Bool → List ℕ
+fork_row p line m i j did =
+    column (decimal line) ++ column (codes "receiver" ++ behind i) ++ fork_columns p m i j
+    ++ fork_text did

@@ -1,7 +1,6 @@
 -- What the columns of an event show: what the event adds to the trails of what happened.
-use Rattle.std.specs.Prelude.{◌≡◌, ◌≢◌, ◌⊎◌, ℕ, Option, Some, None, List, [], ◌∷◌, ◌++◌, codes}
-use Rattle.std.specs.Prelude.{decimal}
-use Rattle.std.specs.Prelude.{slice_get, slice_index}
+use Rattle.std.specs.Prelude.{◌≡◌, ◌≢◌, ◌⊎◌, ◌==◌, ℕ, Bool, Option, Some, None, List, [], ◌∷◌, ◌++◌}
+use Rattle.std.specs.Prelude.{codes, decimal, slice_get, slice_index, if◌then◌else◌}
 use Rattle.bus_register.specs.Names.{kind_name}
 use Rattle.bus_register.specs.Words.{register}
 use Rattle.bus_register.specs.declared.kinds.Kind.{Kind}
@@ -16,6 +15,7 @@ use Rattle.bus_deliverylog.specs.Receiving.{Receiving, due_kind, due_op}
 use Rattle.bus_deliverylog.specs.declared.receiving.RecvTurn.{RecvTurn}
 use Rattle.bus_deliverylog.specs.Text.{recv_text}
 use Rattle.bus_machine.specs.Machine.{Machine, Trails, no_machine_trails, trails_grown, going}
+use Rattle.bus_machine.specs.Machine.{passed_by}
 use Rattle.bus_presence.specs.Reclamation.{Entry}
 use Rattle.bus_tenure.specs.Core.{Election}
 use Rattle.bus_world.specs.Headline.{Action, HasPut, HasMarked, Stepped}
@@ -24,7 +24,7 @@ use Rattle.bus_world.specs.declared.events.Answer.{Answer}
 use Rattle.bus_world.specs.declared.events.Answer.TheVariants as answer
 use Rattle.bus_replay.specs.Text.{answer_text, behind}
 use Rattle.bus_trace.specs.Rows.{column, tenure_text, no_step, step_text, action_text, actions_text}
-use Rattle.bus_trace.specs.Rows.{columns, who_text}
+use Rattle.bus_trace.specs.Rows.{columns, who_text, fork_columns}
 use Rattle.bus_trace.specs.Words.{TraceSizes, word_name}
 
 -- what an event with this answer adds
@@ -49,14 +49,20 @@ ShowsAnswer X m s e a =
     (action : Action) → (added X m e a).actions s ≡ action ∷ []
     → answer_text a ≡ answer_text (answer_of action)
 
--- A step of this tenure and of this kind was taken on this word. The columns have what stood in the
--- word before, and what stands there now; no other word has changed.
-pub record ShowsStep {E : Type 0} (p : TraceSizes) (old new : Machine E) (tenure : Option ℕ)
-    (k : Kind) (at : ℕ) (text : List ℕ) : Type 0 where
+-- A step was taken on this word, with these texts for its tenure and its kind. The columns have
+-- what stood in the word before, and what stands there now; no other word has changed.
+pub record ShowsWord {E : Type 0} (p : TraceSizes) (old new : Machine E) (tenure kind : List ℕ)
+    (at : ℕ) (text : List ℕ) : Type 0 where
   pub shown : text
-      ≡ column (tenure_text tenure) ++ column (kind_name k) ++ column (word_name p at)
+      ≡ column tenure ++ column kind ++ column (word_name p at)
       ++ column (decimal (slice_index old.words at)) ++ column (decimal (slice_index new.words at))
   pub others : (place : ℕ) → place ≢ at → slice_index new.words place ≡ slice_index old.words place
+
+-- it is of this tenure and of this kind
+abbrev pub ShowsStep : {E : Type 0} → TraceSizes → (old new : Machine E) → Option ℕ → Kind → ℕ
+    → List ℕ → Type 0
+ShowsStep p old new tenure k at text =
+    ShowsWord p old new (tenure_text tenure) (kind_name k) at text
 
 -- no step was taken: the columns have this in the place of a kind, and no word has changed
 pub record ShowsNone {E : Type 0} (old new : Machine E) (name text : List ℕ) : Type 0 where
@@ -158,3 +164,20 @@ pub record Shows {E : Type 0} (p : TraceSizes) (X : Election E) (m : Machine E) 
     (a : Answer) (new : Machine E) : Type 0 where
   pub who : ShowsWho X m e a
   pub event : ShowsEvent p X m e a new
+
+-- Receiver i has forked to number j, or found no seat there. The line has who is asked, these
+-- columns, and whether that was done (fork_row). It shows
+pub record ShowsFork {E : Type 0} (p : TraceSizes) (m : Machine E) (i j : ℕ) (did : Bool)
+    (new : Machine E) : Type 0 where
+  -- the compare_exchange in the passed place of that number
+  pub step : (at : ℕ) → passed_by m.layout m.reuse j ≡ Some at
+      → ShowsWord p m new (codes "-") (codes "Fork") at (fork_columns p m i j)
+  -- which is done exactly where 2^64 - 1 stood there, and then leaves what the maker has passed,
+  -- and else what stood there
+  pub done : (v : Receiving) (at : ℕ) → slice_get m.receivers i ≡ Some v
+      → passed_by m.layout m.reuse j ≡ Some at
+      → (did ≡ (slice_index m.words at == PASSED_ALL))
+      × (slice_index new.words at ≡ (if did then v.passed else slice_index m.words at))
+  -- without such a place it takes no step
+  pub none : passed_by m.layout m.reuse j ≡ None
+      → ShowsNone m new (codes "fork") (fork_columns p m i j)

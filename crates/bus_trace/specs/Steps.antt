@@ -11,6 +11,7 @@ use Rattle.bus_machine.specs.Machine.{Machine}
 use Rattle.bus_tenure.specs.Core.{Election}
 use Rattle.bus_world.specs.World.{Event, Put, Ask, Turn, Recv, Stop, Gone}
 use Rattle.bus_trace.specs.declared.seen.Seen.{Seen}
+use Rattle.bus_trace.specs.declared.seen.SeenWord.{SeenWord}
 use Rattle.bus_trace.specs.declared.seen.Step.{Step}
 
 abbrev pub step_of : Option ℕ → Option Kind → Option Op → Option Step
@@ -52,4 +53,13 @@ seen_in words (Some step) = Some (record {
   step = step;
   found = words (register step.op);
   left = after step.op (words (register step.op));
+})
+
+-- the word of a step, with the same two numbers
+abbrev pub word_in : (ℕ → ℕ) → Option Op → Option SeenWord
+word_in words None = None
+word_in words (Some o) = Some (record {
+  at = record { 0 = register o };
+  found = words (register o);
+  left = after o (words (register o));
 })

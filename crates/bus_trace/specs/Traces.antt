@@ -1,5 +1,5 @@
--- What `trace` answers to an input: the lines of the events that `replay` plays of it, one after
--- another, and the first refusal.
+-- What `trace` answers to an input: the lines of the events and forks that `replay` plays of it,
+-- one after another, and the first refusal.
 use Rattle.std.specs.Prelude.{◌≡◌, ◌≢◌, ◌-◌, ℕ, zero, suc, Bool, ◌⊎◌, Option, Some, None, List, []}
 use Rattle.std.specs.Prelude.{◌∷◌, ◌++◌, codes, flat_map}
 use mathlib.Core.Logic.{inl, inr}
@@ -13,20 +13,20 @@ use Rattle.bus_world.specs.declared.events.Answer.{Answer}
 use Rattle.bus_world.specs.declared.shapes.MakeFault.{MakeFault}
 use Rattle.bus_world.specs.declared.shapes.MakeFault.TheVariants as make
 use Rattle.bus_machine.specs.Machine.{Machine}
-use Rattle.bus_world.specs.World.{no_bases}
-use Rattle.bus_machine.specs.Playing.{IsMadeWith, MakeRefused}
+use Rattle.bus_machine.specs.Playing.{MakeRefused}
 use Rattle.bus_script.specs.declared.line_numbers.LineNumber.TheVariants.{AtLine, AtEnd}
 use Rattle.bus_script.specs.declared.answers.Outcome.{Outcome}
 use Rattle.bus_script.specs.declared.answers.Outcome.TheVariants.{Done, Refused}
 use Rattle.bus_script.specs.Grammar.{script_lines}
 use Rattle.bus_script.specs.LineNumbers.{refusal_line}
 use Rattle.bus_replay.specs.declared.lines.FirstLine.{FirstLine}
-use Rattle.bus_replay.specs.Lines.{Command, first_of, command_of, shape_in, reuse_in}
-use Rattle.bus_replay.specs.Lines.{passers_in}
+use Rattle.bus_replay.specs.Lines.{Command, Plays, ForksTo, first_of, command_of, shape_in}
+use Rattle.bus_replay.specs.Lines.{reuse_in, passers_in}
 use Rattle.bus_replay.specs.Text.{make_fault_name}
 use Rattle.bus_replay.specs.Answers.{End, Left, Stopped, Repeats, Asked, Prints}
+use Rattle.bus_replay.specs.Answers.{SeatsRefused, IsOpened}
 use Rattle.bus_trace.specs.Words.{TraceSizes, sizes_of}
-use Rattle.bus_trace.specs.Rows.{header, row_text}
+use Rattle.bus_trace.specs.Rows.{header, row_text, fork_row}
 use Rattle.bus_trace.specs.Told.{numbered_row}
 
 -- lines, numbered from this number on
@@ -47,7 +47,7 @@ IsRefused refusal outcome whole = (outcome ≡ Refused) × (whole ≡ header ++ 
 
 -- senders go by this election, made of ratifiers of this protocol
 module _ {S : Type 0} (X : Election (Elector S)) (P : Protocol S Bool Verdict) where
-  -- ---- the lines of what `replay` plays: one for each event of the run
+  -- ---- the lines of what `replay` plays: one for each event of the run, and for each fork
   -- of an event that was repeated while it went on
   abbrev pub repeat_rows : (p : TraceSizes) (line : ℕ) (m : Machine (Elector S)) (e : Event)
       (more : ℕ) (last : Answer)
@@ -64,9 +64,12 @@ module _ {S : Type 0} (X : Election (Elector S)) (P : Protocol S Bool Verdict) w
       → List (List ℕ))
       → (text : List ℕ) (end : End (Elector S)) → Asked X P m line c Behind text end → List (List ℕ)
   asked_rows p m line None Behind behind text end run = []
-  asked_rows p m line (Some c) Behind behind text end (inl refused) = []
-  asked_rows p m line (Some c) Behind behind text end (inr run) =
-      repeat_rows p line m c.event (c.times - 1) run.1 run.0 run.3 ++ behind run.0 run.2 end run.4
+  asked_rows p m line (Some (Plays event times)) Behind behind text end (inl refused) = []
+  asked_rows p m line (Some (Plays event times)) Behind behind text end (inr run) =
+      repeat_rows p line m event (times - 1) run.1 run.0 run.3 ++ behind run.0 run.2 end run.4
+  asked_rows p m line (Some (ForksTo i j)) Behind behind text end (inl refused) = []
+  asked_rows p m line (Some (ForksTo i j)) Behind behind text end (inr run) =
+      fork_row p line m i j run.1 ∷ behind run.0 run.2 end run.4
 
   -- of all lines
   abbrev pub printed_rows : (p : TraceSizes) (m : Machine (Elector S)) (lines : List (ℕ × List ℕ))
@@ -87,17 +90,19 @@ module _ {S : Type 0} (X : Election (Elector S)) (P : Protocol S Bool Verdict) w
       × (whole
       ≡ header ++ numbered_rows 1 (printed_rows p m lines answers end run) ++ refusal_of end)
 
-  -- by what the first line asks for: such a new bus is made, or it is not made
+  -- By what the first line asks for: such a new bus is made, or it is not made. That receivers
+  -- leave the spare seats of a ring is no event of the script, and has no line.
   abbrev pub Begins : ℕ → Option FirstLine → List (ℕ × List ℕ) → Outcome → List ℕ → Type 0
   Begins line None lines outcome whole =
       IsRefused (refusal_line (AtLine line) (codes "BadLine")) outcome whole
   Begins line (Some first) lines outcome whole =
       ((why : MakeFault) × MakeRefused (shape_in first) (reuse_in first) why × (why ≢ make.NoMemory)
       × IsRefused (refusal_line (AtLine line) (make_fault_name why)) outcome whole)
-      ⊎ ((m : Machine (Elector S))
-      × IsMadeWith X P (shape_in first) (reuse_in first) (passers_in first) no_bases m
+      ⊎ ((SeatsRefused first
+      × IsRefused (refusal_line (AtLine line) (codes "Seats")) outcome whole)
+      ⊎ ((m : Machine (Elector S)) × IsOpened X P first m
       × ArePrinted (sizes_of P (shape_in first) (reuse_in first) (passers_in first)) m lines outcome
-      whole)
+      whole))
 
   abbrev pub Traces : List (ℕ × List ℕ) → Outcome → List ℕ → Type 0
   Traces [] outcome whole = IsRefused (refusal_line AtEnd (codes "BadLine")) outcome whole

@@ -6,12 +6,13 @@ ghost use Rattle.bus_trace.specs.Rows.{header, column, tenure_text, no_step, who
 ghost use Rattle.bus_trace.specs.Words.{sizes_told};
 ghost use Rattle.bus_trace.specs.Obeying.{IsCounted};
 ghost use Rattle.bus_trace.specs.Told.{name_told, seen_columns, row_told, numbered_row};
+ghost use Rattle.bus_trace.specs.Told.{word_columns, fork_told};
 
 use crate::memory_maps::MemoryMap;
-use crate::seen::{Seen, register_of};
+use crate::seen::{Seen, SeenWord, register_of};
 use crate::sheets::Sheet;
 use crate::words::push_word;
-use bus_replay::text::push_answer;
+use bus_replay::text::{fork_text, push_answer};
 use bus_world::{Answer, Event};
 use std::alloc::{AllocError, Global};
 
@@ -141,5 +142,68 @@ pub fn push_row(
     push_columns(&mut sheet.text, memory_map, line, event, seen, answer)?;
     sheet.text.push_str("\n")?;
     sheet.lines = number;
+    Ok(())
+}
+
+/// Puts the columns of a fork at the end of a text. Without a word it took no step.
+fn push_word_columns(
+    text: &mut String,
+    memory_map: MemoryMap,
+    word: Option<SeenWord>,
+) -> Result<(), AllocError>
+    ensures { OnOk result
+        (string_bytes text.new ≡ string_bytes text.old
+        ++ word_columns (sizes_told memory_map) word) }
+{
+    let Some(word) = word else {
+        return text.push_str("-\tfork\t-\t-\t-\t");
+    };
+    text.push_str("-\tFork\t")?;
+    push_word(text, memory_map, word.at.0)?;
+    text.push_str("\t")?;
+    push_number(text, word.found)?;
+    push_number(text, word.left)
+}
+
+/// Puts all columns of a fork but the number at the end of a text.
+fn push_fork_columns(
+    text: &mut String,
+    memory_map: MemoryMap,
+    line: u64,
+    receiver: u64,
+    word: Option<SeenWord>,
+    did: bool,
+) -> Result<(), AllocError>
+    ensures { OnOk result
+        (string_bytes text.new ≡ string_bytes text.old
+        ++ fork_told (sizes_told memory_map) line receiver word did) }
+{
+    write!(text, "{line}\treceiver {receiver}\t")?;
+    push_word_columns(text, memory_map, word)?;
+    text.push_str(fork_text(did))
+}
+
+/// Puts the line of a fork on a sheet.
+pub fn push_fork_row(
+    sheet: &mut Sheet,
+    memory_map: MemoryMap,
+    line: u64,
+    receiver: u64,
+    word: Option<SeenWord>,
+    did: bool,
+) -> Result<(), AllocError>
+    requires { IsCounted (string_bytes sheet.old.text) sheet.old.lines }
+    ensures text { OnOk result
+        (string_bytes sheet.new.text ≡ string_bytes sheet.old.text
+        ++ numbered_row (sheet.old.lines + 1)
+        (fork_told (sizes_told memory_map) line receiver word did)) }
+    ensures lines { OnOk result (sheet.new.lines ≡ sheet.old.lines + 1) }
+    ensures counted { OnOk result (IsCounted (string_bytes sheet.new.text) sheet.new.lines) }
+{
+    let next = sheet.lines + 1;
+    write!(sheet.text, "{next}\t")?;
+    push_fork_columns(&mut sheet.text, memory_map, line, receiver, word, did)?;
+    sheet.text.push_str("\n")?;
+    sheet.lines = next;
     Ok(())
 }

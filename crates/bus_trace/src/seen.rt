@@ -26,6 +26,16 @@ pub struct Seen {
     pub left: u64,
 }
 
+/// The word that a fork was on.
+#[derive(Clone, Copy, Debug, PartialEq, Eq)]
+pub struct SeenWord {
+    pub at: Reg,
+    /// What stood there before it.
+    pub found: u64,
+    /// What stands there after it.
+    pub left: u64,
+}
+
 /// The word that a step is on.
 pub fn register_of(op: Op) -> Reg
     ensures { result.0 ≡ register op }

@@ -2,12 +2,14 @@
 
 ghost use Rattle.std.specs.Prelude.{◌≡◌, slice_get, slice_index, IfOk, IfErr};
 ghost use Rattle.bus_tenure.specs.Elections.{election_of};
-ghost use Rattle.bus_world.specs.Playing.{event_told};
+ghost use Rattle.bus_world.specs.Playing.{event_told, ForkRefused};
+ghost use Rattle.bus_machine.specs.Machine.{Forks};
 ghost use Rattle.bus_machine.specs.Playing.{Answers, Refuses};
+ghost use Rattle.bus_trace.specs.Rows.{fork_op};
 ghost use Rattle.bus_trace.specs.Steps.{sender_due, receiver_due, leaver_due};
-ghost use Rattle.bus_trace.specs.Steps.{due_by, seen_in};
+ghost use Rattle.bus_trace.specs.Steps.{due_by, seen_in, word_in};
 
-use crate::seen::{Seen, Step, register_of};
+use crate::seen::{Seen, SeenWord, Step, register_of};
 use bus_adoptcommit::Ratifier;
 use bus_machine::World;
 use bus_register::{Kind, Reg, SenderNo};
@@ -120,4 +122,31 @@ pub fn step_shown<Q: Ratifier + Drop>(
     let answer = bus.step(event)?;
     let left = standing(bus, at);
     Ok((Some(Seen { step, found, left }), answer))
+}
+
+/// A receiver forks to a higher number, where that is free, and the answer says whether it has;
+/// before it stands the word that the step is on, if it takes one, with what stood there and what
+/// stands there now: that in which the last receiver of that number would say that it leaves. A
+/// refused fork changes nothing.
+pub fn fork_shown<Q: Ratifier + Drop>(
+    bus: &mut World<Q>,
+    receiver: u64,
+    number: u64,
+) -> Result<(Option<SeenWord>, bool), StepFault>
+    ensures forked { IfOk result (λ told. Forks bus.old receiver number told.1 bus.new) }
+    ensures seen { IfOk result (λ told. told.0 ≡ word_in (slice_index bus.old.words)
+        (fork_op bus.old number (slice_get bus.old.receivers receiver))) }
+    ensures refused { IfErr result (λ why. ForkRefused (slice_get bus.old.receivers receiver)
+        (slice_get bus.old.receivers number) receiver number why × (bus.new ≡ bus.old)) }
+{
+    bus.promises();
+    let Some(step) = due_of_leaver(bus, number) else {
+        let did = bus.fork(receiver, number)?;
+        return Ok((None, did));
+    };
+    let at = register_of(step.op);
+    let found = standing(bus, at);
+    let did = bus.fork(receiver, number)?;
+    let left = standing(bus, at);
+    Ok((Some(SeenWord { at, found, left }), did))
 }

@@ -16,8 +16,8 @@ use bus_adoptcommit::Ratifier;
 use bus_machine::World;
 use bus_register::NoMemory;
 use bus_replay::answers::new_bus;
-use bus_replay::lines::{FirstLine, first_of};
-use bus_replay::names::make_fault_name;
+use bus_replay::lines::{FirstFault, FirstLine, first_of};
+use bus_replay::names::first_fault_name;
 use bus_script::{Answer, LineNumber, Lines, Outcome, refusal_line};
 use bus_world::MakeFault;
 use std::alloc::Global;
@@ -69,8 +69,8 @@ fn trace_behind<Q: Ratifier + Drop>(
 {
     match new_bus::<Q>(alloc, first) {
         Ok(bus) => trace_from(alloc, bus, memory_map_of::<Q>(first), lines),
-        Err(MakeFault::NoMemory) => Err(NoMemory),
-        Err(fault) => trace_refused(alloc, LineNumber::AtLine(number), make_fault_name(fault)),
+        Err(FirstFault::Make(MakeFault::NoMemory)) => Err(NoMemory),
+        Err(fault) => trace_refused(alloc, LineNumber::AtLine(number), first_fault_name(fault)),
     }
 }
 

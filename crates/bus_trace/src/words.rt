@@ -2,6 +2,7 @@
 
 ghost use Rattle.std.specs.Prelude.{◌≡◌, ◌++◌, ◌<◌, OnOk, string_bytes};
 ghost use Rattle.bus_machine.specs.Playing.{IsServed};
+ghost use Rattle.bus_replay.specs.Answers.{AreSeats};
 ghost use Rattle.bus_replay.specs.Lines.{shape_in, reuse_in, passers_in};
 ghost use Rattle.bus_trace.specs.Words.{ratifier_word, round_word, decision_word, row_word};
 ghost use Rattle.bus_trace.specs.Words.{word_name, sizes_told, sizes_of};
@@ -16,14 +17,15 @@ use std::alloc::AllocError;
 
 /// The memory map of a bus such as the first line of a script asks for.
 pub fn memory_map_of<Q: Ratifier + Drop>(first: FirstLine) -> MemoryMap
-    requires { IsServed (shape_in first) (reuse_in first) }
+    requires served { IsServed (shape_in first) (reuse_in first) }
+    requires seats { AreSeats first }
     ensures { sizes_told result ≡ sizes_of Q.protocol (shape_in first) (reuse_in first)
         (passers_in first) }
 {
     let (shape, presences, passers) = match first {
         FirstLine::Shape(shape) => (shape, 0, 0),
         FirstLine::Cycle(shape) => (shape, shape.senders, 0),
-        FirstLine::Ring(shape) => (shape, shape.senders, shape.receivers),
+        FirstLine::Ring { shape, seats } => (shape, shape.senders, seats),
     };
     let row = Election::<Q>::width(shape.senders, shape.rounds);
     let passed = 2 + presences + shape.rows * row;

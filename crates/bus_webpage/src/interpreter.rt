@@ -7,21 +7,27 @@ pub const INTERPRETER: &str = r#"'use strict';
 // from docs/PROTOCOL.md and docs/FORMATS.md, and is not proved.
 
 // ---- A bus. Its words stand by their names, and those that nobody has stored are 0. The words of
-// the log are BigInt, since they have 64 bits, and what a receiver stores that leaves a ring; all
-// others are plain numbers.
+// the log are BigInt, since they have 64 bits, and what stands in the passed place of a seat of a
+// ring that nobody has; all others are plain numbers.
 const PASSED_ALL = BigInt('18446744073709551615');
 
-function newBus(kind, [senders, receivers, rounds, rows, log]) {
+function newBus(kind, [senders, receivers, rounds, rows, log, seats = receivers]) {
     const isCyclic = kind !== 'shape';
     let bits = 0;
     while (2 ** bits < senders) bits += 1;
     return {
         isCyclic, isRing: kind === 'ring', rounds, rows, log, bits,
-        end: isCyclic ? 2 ** 40 : rows, words: new Map(),
+        end: isCyclic ? 2 ** 40 : rows, words: new Map(freePlaces(receivers, seats)),
         page: {words: 0, hasEnded: false, floor: 0},
         senders: Array.from({length: senders}, (none, number) => newSender(number)),
-        receivers: Array.from({length: receivers}, (none, number) => newReceiver(number)),
+        receivers: Array.from({length: seats}, (none, r) => newReceiver(r, r >= receivers)),
     };
+}
+
+// The passed places of the seats that nobody has at first, as they begin.
+function freePlaces(receivers, seats) {
+    const free = Array.from({length: seats - receivers}, (none, place) => receivers + place);
+    return free.map((seat) => ['passed ' + seat, PASSED_ALL]);
 }
 
 // A sender. While it is in a tenure, `due` is the kind of its next step; else it is empty.
@@ -41,11 +47,12 @@ function newSender(number) {
 
 // A receiver: its place, the length that it knows, and of the frame in which it reads the words
 // that are left, the owner, and the message of which bytes are missing; what it has passed, of a
-// ring; and whether it has left for good.
-function newReceiver(number) {
+// ring; the number to which it forks; and whether nobody has its seat, since it has left for good,
+// or since none has taken that yet.
+function newReceiver(number, isGone) {
     return {
         seat: 'receiver', number, place: 0, known: 0, hasEnded: false, left: 0, owner: 0,
-        message: null, passed: 0, isGone: false,
+        message: null, passed: 0, forksTo: 0, isGone,
     };
 }
 
@@ -227,6 +234,11 @@ const STEPS = {
             r.passed = r.place;
             return r.isGone ? 'gone' : 'going';
         },
+    },
+    Fork: {
+        word: (bus, r) => 'passed ' + r.forksTo,
+        leaves: (bus, r, found) => (found === PASSED_ALL ? r.passed : found),
+        then: (bus, r, found) => joinAt(bus, r, found === PASSED_ALL),
     },
 };
 
@@ -428,6 +440,14 @@ function itemOf(r) {
     return 'item ' + r.owner + ' ' + number + ' ' + (digits.slice(0, 2 * size) || '-');
 }
 
+// A receiver joins where its maker forks to: it is what that is at this moment.
+function joinAt(bus, r, isFree) {
+    if (!isFree) return 'no seat';
+    const number = r.forksTo;
+    Object.assign(bus.receivers[number], r, {number, message: r.message && {...r.message}});
+    return 'forked';
+}
+
 // ---- A turn: the step that is due, without taking it, and then the turn itself.
 function kindDue(bus, process) {
     if (process.seat === 'receiver') {
@@ -520,14 +540,17 @@ const isMessage = (word) => /^(-|([0-9a-f]{2})+)$/.test(word);
 const FORMS = {
     put: [isNumber, isMessage], close: [isNumber], leave: [isNumber], stop: [isNumber],
     turn: [isNumber, isRandom, isTimes], recv: [isNumber, isTimes], gone: [isNumber],
+    fork: [isNumber, isNumber],
     shape: [isNumber, isNumber, isNumber, isNumber, isNumber],
     cycle: [isNumber, isNumber, isNumber, isNumber, isNumber],
-    ring: [isNumber, isNumber, isNumber, isNumber, isNumber],
+    ring: [isNumber, isNumber, isNumber, isNumber, isNumber, isNumber],
 };
 
+// A ring may leave out its last number.
 function hasForm(word, rest) {
     const form = Object.hasOwn(FORMS, word) && FORMS[word];
-    return form && form.length === rest.length && form.every((fits, place) => fits(rest[place]));
+    const isFull = form && (rest.length === form.length || (word === 'ring' && rest.length === 5));
+    return isFull && rest.every((one, place) => form[place](one));
 }
 
 // Which size of a bus is refused, or the empty text.
@@ -535,6 +558,7 @@ function sizeRefused(isCyclic, sizes) {
     const limits = [
         ['Senders', 1, 64], ['Receivers', 1, 64], ['Rounds', 1, 8],
         isCyclic ? ['Rows', 2, 8] : ['Rows', 1, 256], ['LogWords', 16, 65536],
+        ['Seats', sizes[1], 64],
     ];
     const bad = limits.find(([, least, most], at) => sizes[at] < least || sizes[at] > most);
     return bad ? bad[0] : '';
@@ -565,9 +589,10 @@ function playFirst(game, word, sizes) {
 // Gives the name of the refusal, or nothing.
 function playEvent(game, word, rest) {
     const {bus} = game;
-    const isOfReceiver = word === 'recv' || word === 'gone';
+    const isOfReceiver = ['recv', 'gone', 'fork'].includes(word);
     const process = (isOfReceiver ? bus.receivers : bus.senders)[Number(rest[0])];
     if (!process) return isOfReceiver ? 'NoSuchReceiver' : 'NoSuchSender';
+    if (word === 'fork') return playFork(game, process, Number(rest[1]));
     if (process.isStopped) return 'Stopped';
     if (process.isGone) return 'Gone';
     if (word === 'recv') playTurns(game, process, 0, Number(rest[1]));
@@ -582,6 +607,22 @@ function playCall(game, s, word, message) {
     const stores = word === 'gone' && game.bus.isRing;
     if (stores) addRow(game, s, takeStep(game.bus, s, 'StorePassed', 0));
     else addRow(game, s, {tenure: '-', kind: word, word: '-', found: '-', after: '-', answer});
+    return '';
+}
+
+// A fork is one step of a ring, and of another bus it takes none.
+function playFork(game, r, number) {
+    const {bus} = game;
+    if (!bus.receivers[number]) return 'NoSuchReceiver';
+    if (number <= r.number) return 'NotAbove';
+    if (r.isGone) return 'Gone';
+    r.forksTo = number;
+    if (bus.isRing) {
+        addRow(game, r, takeStep(bus, r, 'Fork', 0));
+    } else {
+        const answer = joinAt(bus, r, bus.receivers[number].isGone);
+        addRow(game, r, {tenure: '-', kind: 'fork', word: '-', found: '-', after: '-', answer});
+    }
     return '';
 }
 

@@ -29,6 +29,11 @@ const KINDS = {
         why: 'The receiver takes no step from here on. No log word is used again, so nobody ' +
             'waits for it.',
     },
+    fork: {
+        does: 'call',
+        why: 'A receiver joins, and goes on from where its maker stands. No log word is used ' +
+            'again, so it has no passed place to store.',
+    },
     LoadStage: {
         does: 'load',
         why: 'Looks which tenure is open. The stage is 2t while tenure t is open, and 2t + 1 ' +
@@ -146,6 +151,12 @@ const KINDS = {
         why: 'It has heard a whole frame, or leaves for good, and says so: it needs the words ' +
             'before that place no more.',
     },
+    Fork: {
+        does: 'exchange',
+        why: 'A receiver joins at a free seat, and goes on from where its maker stands. The seat ' +
+            'is above its own, and owners load upwards: who has loaded the new one had loaded ' +
+            'that of its maker before.',
+    },
     '-': {
         does: 'call',
         why: 'A turn without a step: no word is touched.',
@@ -160,10 +171,11 @@ const PLAIN = {
     closed: 'this sender sends nothing more', spent: 'no tenure is left',
     empty: 'nothing more is published', end: 'the order has ended', closing: 'an end mark waits',
     leaving: 'a leave mark waits',
-    stopped: 'for good', gone: 'for good',
+    stopped: 'for good', gone: 'for good', forked: 'another receiver goes on from here',
+    no: 'somebody has that seat',
 };
 
-// What a receiver that has left for good stores in its passed place.
+// What stands in the passed place of a seat that nobody has.
 const ALL = '18446744073709551615';
 
 // The text of an answer, beside the answer itself.
@@ -215,7 +227,7 @@ function said(place, value) {
     case 'stage': return saidStage(value);
     case 'length': return counted(+value, 'word');
     case 'presence': return value === '0' ? 'nowhere' : 'in tenure ' + (+value - 1);
-    case 'passed': return value === ALL ? 'left for good' : 'up to position ' + value;
+    case 'passed': return value === ALL ? 'nobody there' : 'up to position ' + value;
     case 'proposal':
     case 'fallback': return value === '0' ? 'empty' : 'bit ' + (+value - 1);
     case 'counter': return saidVotes(value);
@@ -270,6 +282,7 @@ function told(page, row) {
     if (row.kind === 'leave') return actor(row) + ' is asked to leave for good.';
     if (row.kind === 'stop') return actor(row) + ' stops for good.';
     if (row.kind === 'gone') return actor(row) + ' leaves for good.';
+    if (row.kind === 'fork') return actor(row) + ' forks to seat ' + forksTo(page, row) + '.';
     if (row.word === '-') return actor(row) + ' has a turn and takes no step.';
     const place = placeOf(row.word);
     const found = said(place, row.found);
@@ -280,11 +293,17 @@ function told(page, row) {
     case 'add': return actor(row) + ' adds ' + vote(row) + ' to ' + word + ': ' + after + '.';
     case 'exchange':
         return actor(row) + ' does a compare_exchange on ' + word + (row.found === row.after ?
-            ', which is not empty: ' + found + ' stays.' : ', which is empty: now ' + after + '.');
+            ', which is not ' + wanted(row) + ': ' + found + ' stays.' :
+            ', which is ' + wanted(row) + ': now ' + after + '.');
     default:
         if (row.after === '0') return actor(row) + ' clears ' + word + '; it was: ' + found + '.';
         return actor(row) + ' stores in ' + word + ': ' + after + '.';
     }
+}
+
+// What a word is where a compare_exchange stores in it.
+function wanted(row) {
+    return row.kind === 'Fork' ? 'free' : 'empty';
 }
 
 function vote(row) {
@@ -321,9 +340,12 @@ function follows(page, row) {
         return empty ? 'It is the first here: the bit is ' + (row.after - 1) + '.' :
             'It is not the first: the bit is ' + (row.found - 1) + '.';
     case 'ReadPassed':
-        return row.found === ALL ? 'Receiver ' + place.of + ' has left: it waits for nothing.' :
+        return row.found === ALL ? 'Nobody is at seat ' + place.of + ': it waits for nothing.' :
             'Receiver ' + place.of + ' may still need the words from position ' + row.found +
             ' on.';
+    case 'Fork':
+        return row.found === ALL ? 'Receiver ' + place.of + ' is there from now on, and is given ' +
+            'what its maker will be given.' : 'Somebody is there, so nothing changes.';
     case 'ReadAnnouncement':
         return empty ? 'Sender ' + place.of + ' does not stand for election: it looks further.' :
             'Sender ' + place.of + ' is its candidate from here on.';

@@ -93,6 +93,8 @@ pub const GAME: &str = r#"<section id="game" aria-labelledby="game-title">
 <button id="stop">Stop</button>
 <label>Receiver <select id="which"></select></label>
 <button id="gone">Leave for good</button>
+<button id="fork">Fork</button>
+<label>to seat <select id="free"></select></label>
 </div>
 <details id="new-fold"><summary>A new bus</summary>
 <div class="bar">
@@ -105,6 +107,7 @@ pub const GAME: &str = r#"<section id="game" aria-labelledby="game-title">
 <label>rows <input id="size-3" class="small" type="number" min="1" max="256" value="4"></label>
 <label>log words <input id="size-4" class="small" type="number" min="16" max="65536"
 value="64"></label>
+<label>seats of a ring <input id="size-5" class="small" type="number" min="1" max="64"></label>
 <button id="new">Begin</button>
 </div>
 </details>

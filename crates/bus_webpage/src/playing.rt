@@ -12,7 +12,9 @@ const playing = {game: null, past: null, turns: [], ways: new Map(), way: ''};
 
 // Why something cannot be done, by what is promised (docs/PROOF.md or CLAIMS.md has each).
 const FORBIDS = {
-    Gone: 'It has left for good, and nothing waits for it any more.',
+    Gone: 'Nobody has that seat: its receiver has left for good, or none has taken it yet.',
+    NotAbove: 'A receiver forks to a seat above its own. Owners load passed places upwards, so ' +
+        'one that joins below might be missed.',
     Stopped: 'A stop is for good. No later event of that sender is answered, and nobody takes ' +
         'its steps (stops_are_for_good).',
     Closed: 'It has closed or left, or the order has ended. Nothing follows the end (silent), ' +
@@ -31,6 +33,7 @@ const FORBIDS = {
     Rounds: 'A bus has 1 to 8 rounds for each bit.',
     Rows: 'A bus has 1 to 256 rows, or 2 to 8 that are used again.',
     LogWords: 'A log has 16 to 65,536 words.',
+    Seats: 'A ring has no fewer seats than receivers, and at most 64.',
     BadLine: 'That is no line of a script; docs/FORMATS.md has their forms.',
 };
 
@@ -44,6 +47,8 @@ const FOLLOWS = {
     full: 'Its frame does not fit in the log. Its batch is kept, and nothing of it is in the ' +
         'order. In a ring it fits once all receivers have passed what it would overwrite.',
     gone: 'Nobody waits for it any more: what it has not heard may be overwritten.',
+    forked: 'The new receiver is given from here on what its maker will be given.',
+    no: 'A receiver joins at a seat that nobody has.',
     spent: 'No tenure is left for it.',
     idle: 'Nothing waits to be sent: put it a message.',
     empty: 'Nothing more is published.',
@@ -159,8 +164,11 @@ function buildTurns() {
     const asked = at('whom').value;
     at('whom').replaceChildren(...choices);
     if (choices.some((one) => one.value === asked)) at('whom').value = asked;
-    const receivers = bus ? bus.receivers.map((r) => made('option', '', r.number)) : [];
-    at('which').replaceChildren(...receivers);
+    const receivers = bus ? bus.receivers : [];
+    for (const name of ['which', 'free']) {
+        at(name).replaceChildren(...receivers.map((r) => made('option', '', r.number)));
+    }
+    at('free').selectedIndex = Math.max(0, receivers.findIndex((r) => r.isGone));
 }
 
 function turnOf({seat, number}) {
@@ -209,7 +217,8 @@ function showTurns() {
         const isVote = due.kind === 'Vote' && !isOver;
         const [first, second] = part.buttons;
         first.node.setAttribute('aria-disabled', String(isOver));
-        write(first.kind, isOver ? 'stopped' : isVote ? 'tails' : saidKind(due));
+        const over = process.isGone ? 'nobody' : 'stopped';
+        write(first.kind, isOver ? over : isVote ? 'tails' : saidKind(due));
         write(first.on, saidDue(process, due));
         if (second.node.hidden !== !isVote) second.node.hidden = !isVote;
         write(second.kind, 'heads');
@@ -220,7 +229,8 @@ function showTurns() {
 
 // The word that a step is on; of a turn without a step the answer.
 function saidDue(process, due) {
-    if (process.isStopped || process.isGone) return 'for good';
+    if (process.isGone) return 'a free seat';
+    if (process.isStopped) return 'for good';
     if (due.word !== '-') return named(page, placeOf(due.word));
     return process.hasEnded ? 'end' : answerAtRest(gameNow().bus, process);
 }
@@ -330,8 +340,10 @@ function callOf(name, of, message) {
 }
 
 function newBusOf() {
+    const kind = at('rows-kind').value;
     const sizes = [0, 1, 2, 3, 4].map((place) => at('size-' + place).value);
-    const line = at('rows-kind').value + ' ' + sizes.join(' ');
+    if (kind === 'ring' && at('size-5').value) sizes.push(at('size-5').value);
+    const line = kind + ' ' + sizes.join(' ');
     const {refusal} = gameOf([line]);
     if (refusal) {
         saysWhy(refusal);
@@ -398,6 +410,7 @@ function listenToPlay() {
     on('put', () => callOf('put', 'whom', hexOf(at('message').value)));
     for (const name of ['close', 'leave', 'stop']) on(name, () => callOf(name, 'whom'));
     on('gone', () => callOf('gone', 'which'));
+    on('fork', () => callOf('fork', 'which', at('free').value));
     on('anew', beginAnew);
     on('new', newBusOf);
     on('read', readText);

@@ -42,11 +42,12 @@ function readRows() {
 function readShape(lines) {
     const first = lines.find((line) => line !== '' && !line.startsWith('#')) || '';
     const part = first.split(' ');
-    if (part.length !== 6 || !['shape', 'cycle', 'ring'].includes(part[0])) return null;
-    const [senders, receivers, rounds, rows, log] = part.slice(1).map(Number);
-    const bits = Math.ceil(Math.log2(senders));
     const [cyclic, ring] = [part[0] !== 'shape', part[0] === 'ring'];
-    return {cyclic, ring, senders, receivers, rounds, rows, log, bits};
+    if (part.length !== 6 && !(ring && part.length === 7)) return null;
+    if (!['shape', 'cycle', 'ring'].includes(part[0])) return null;
+    const [senders, receivers, rounds, rows, log, seats = receivers] = part.slice(1).map(Number);
+    const bits = Math.ceil(Math.log2(senders));
+    return {cyclic, ring, senders, receivers, seats, rounds, rows, log, bits};
 }
 
 // Which word a name of the trace means.
@@ -101,7 +102,7 @@ function pageOf(lines, hasBus, refusal) {
     };
     if (shape && hasBus) {
         for (let s = 0; s < shape.senders; s += 1) processOf(page, 'sender ' + s);
-        for (let r = 0; r < shape.receivers; r += 1) processOf(page, 'receiver ' + r);
+        for (let r = 0; r < shape.seats; r += 1) processOf(page, 'receiver ' + r);
     }
     return page;
 }
@@ -109,12 +110,46 @@ function pageOf(lines, hasBus, refusal) {
 function processOf(page, who) {
     if (!page.processes.has(who)) {
         const [seat, number] = who.split(' ');
+        const isFree = page.shape && number >= page.shape.receivers;
         page.processes.set(who, {
-            who, seat, number: +number, steps: [], puts: [], given: [], delivered: [], stops: [],
-            left: [],
+            who, seat, number: +number, steps: [], puts: [], delivered: [], stops: [], left: [],
+            lives: seat === 'sender' || isFree ? [] : [lifeFrom(0, [])],
         });
     }
     return page.processes.get(who);
+}
+
+// A receiver of a seat, which may have several, one after another: the step in which it came, those
+// in which it was given a message, or its maker before that, and the one in which it left.
+function lifeFrom(from, given) {
+    return {from, given, until: Infinity};
+}
+
+// The last receiver of a seat up to a step, if it had one by then.
+function lifeAt(process, step) {
+    return process.lives.filter((life) => life.from <= step).pop();
+}
+
+// Whether nobody takes steps there after a step: a sender has stopped, or a seat is free.
+function isVacant(process, step) {
+    if (process.seat === 'sender') return countUpTo(process.stops, step) > 0;
+    const life = lifeAt(process, step);
+    return !life || life.until <= step;
+}
+
+// The number that a receiver forks to, by the script's line.
+function forksTo(page, row) {
+    return +(page.lines[+row.line - 1] || '').split(' ')[2];
+}
+
+// What becomes of the receivers of a seat, and of another to which one forks.
+function noteLives(page, process, row, step) {
+    const life = lifeAt(process, step);
+    if (row.answer.startsWith('item ')) life.given.push(step);
+    if (row.answer === 'gone') life.until = step;
+    if (row.answer !== 'forked') return;
+    const other = processOf(page, 'receiver ' + forksTo(page, row));
+    other.lives.push(lifeFrom(step, life.given.slice()));
 }
 
 function wordOf(page, name) {
@@ -130,9 +165,9 @@ function noteRow(page, row) {
     const process = processOf(page, row.who);
     process.steps.push(step);
     if (row.kind === 'put') process.puts.push(step);
-    if (row.kind === 'stop' || row.answer === 'gone') process.stops.push(step);
+    if (row.kind === 'stop') process.stops.push(step);
     if (row.kind === 'StoreLogWord') page.placed.push(step);
-    if (row.answer.startsWith('item ')) process.given.push(step);
+    if (process.seat === 'receiver') noteLives(page, process, row, step);
     if (row.answer.startsWith('delivered ')) process.delivered.push(step);
     if (row.answer.startsWith('left ')) process.left.push(step);
     if (row.kind === 'TakePage') page.takes.set(row.tenure, step);
@@ -155,10 +190,15 @@ function storedBy(word, step) {
     return count ? word.stores[count - 1] : 0;
 }
 
-// What stands in a word after this step. All words begin at 0.
+// What stands in a word after this step.
 function valueAt(page, word, step) {
     const by = storedBy(word, step);
-    return by ? page.rows[by - 1].after : '0';
+    return by ? page.rows[by - 1].after : firstValue(page, word.place);
+}
+
+// How a word begins: at 0, but for the passed places of seats that nobody has at first.
+function firstValue({shape}, place) {
+    return place.is === 'passed' && shape && place.of >= shape.receivers ? ALL : '0';
 }
 
 // ---- The log: words that begin frames tell what the words behind them are. The word of position p

@@ -257,7 +257,8 @@ function showStep() {
     const row = view.step ? rowAt(view.step) : null;
     write(at('where'), row ? 'Step ' + view.step + ' of ' + total + ', line ' + row.line +
         ' of the script' : 'Before the first of ' + total + ' steps');
-    write(at('told'), row ? told(page, row) : 'Nothing has happened yet: all words are 0.');
+    write(at('told'), row ? told(page, row) : 'Nothing has happened yet: all words are 0' +
+        (hasFreeSeats() ? ', but for those of free seats.' : '.'));
     write(at('means'), row ? follows(page, row) || spelled(row) : '');
     const first = total ? 'Forward, or the right arrow, takes the first step.' : '';
     write(at('why'), !row ? first :
@@ -268,6 +269,10 @@ function showStep() {
     write(at('numbers'), row && row.word !== '-' ?
         row.word + ': found ' + row.found + ', after ' + row.after : '');
     showFrom(row);
+}
+
+function hasFreeSeats() {
+    return page.shape && page.shape.seats > page.shape.receivers;
 }
 
 // What a word of the log is.
@@ -287,7 +292,7 @@ function showFrom(row) {
     const by = storedBy(page.words.get(row.word), view.step - 1);
     view.from = by;
     if (!by) {
-        from.append('It found ' + row.found + ': nobody had stored there.');
+        from.append('It found ' + row.found + ', as it began: nobody had stored there.');
         return;
     }
     const who = rowAt(by).who;
@@ -331,7 +336,7 @@ function showCard(parts) {
     parts.node.classList.toggle('acts', isNow);
     parts.isSource = !isNow && view.from > 0 && rowAt(view.from).who === process.who;
     parts.node.classList.toggle('source', parts.isSource);
-    parts.node.classList.toggle('gone', countUpTo(process.stops, view.step) > 0);
+    parts.node.classList.toggle('gone', isVacant(process, view.step));
     write(parts.kind, row ? saidKind(row) : 'no step yet');
     write(parts.word, row && row.word !== '-' ? named(page, placeOf(row.word)) : '');
     write(parts.tenure, row && row.tenure !== '-' ? 'tenure ' + row.tenure : '');
@@ -372,13 +377,16 @@ function holder() {
     return by && rowAt(by).after % 2 ? rowAt(by).who : '';
 }
 
-// What a receiver was given: the latest four, and how many.
-function showGiven(parts, {given, stops}) {
+// What the last receiver of a seat was given: the latest four, and how many. What its maker was
+// given before it forked counts too.
+function showGiven(parts, process) {
+    const life = lifeAt(process, view.step);
+    const given = life ? life.given : [];
     const count = countUpTo(given, view.step);
-    const left = countUpTo(stops, view.step) ? '; has left for good' : '';
-    write(parts.more, 'given ' + counted(count, 'message') + left);
-    if (parts.count === count) return;
-    parts.count = count;
+    const left = isVacant(process, view.step) ? '; has left for good' : '';
+    write(parts.more, life ? 'given ' + counted(count, 'message') + left : 'a free seat');
+    if (parts.count === count && parts.life === life) return;
+    Object.assign(parts, {count, life});
     parts.list.replaceChildren();
     for (const step of given.slice(Math.max(0, count - 4), count)) {
         const part = rowAt(step).answer.split(' ');
@@ -410,12 +418,12 @@ function showCell(part) {
     if (isNow) view.marked = part.node;
     if (part.step === by) return;
     part.step = by;
-    const value = by ? rowAt(by).after : '0';
+    const value = by ? rowAt(by).after : firstValue(page, part.place);
     part.node.dataset.value = value;
     part.node.classList.toggle('set', value !== '0');
     write(part.value, said(part.place, value));
     part.by.replaceChildren();
-    if (value !== '0') part.by.append(badge(rowAt(by).who));
+    if (by && value !== '0') part.by.append(badge(rowAt(by).who));
     part.node.title = part.name + ' is ' + value +
         (by ? ', stored by ' + rowAt(by).who + ' in step ' + by : ', as it began');
 }
@@ -428,7 +436,7 @@ function sharedWords() {
     for (let s = 0; shape.cyclic && s < shape.senders; s += 1) {
         box.append(cell(made('div'), 'presence ' + s, 'presence of S' + s));
     }
-    for (let r = 0; shape.ring && r < shape.receivers; r += 1) {
+    for (let r = 0; shape.ring && r < shape.seats; r += 1) {
         box.append(cell(made('div'), 'passed ' + r, 'passed by R' + r));
     }
 }

@@ -1,7 +1,6 @@
 -- Receivers of a bus whose rows are used again are as those of one that has a row for each tenure,
 -- whose log lies elsewhere.
-use Rattle.std.proofs.Common.{◌≡◌, ◌⊎◌, ℕ, ◌+◌, ◌%◌, ◌<◌, ◌==◌, cond, Option, Some, None, inl}
-use Rattle.std.proofs.Common.{false}
+use Rattle.std.proofs.Common.{◌≡◌, ℕ, ◌+◌, ◌%◌, ◌<◌, cond, Option, Some, None, inl}
 use Rattle.std.proofs.Common.{inr, List, [], ◌∷◌, ◌++◌, length, take, slice_index, arith, refl, sym}
 use Rattle.std.proofs.Common.{◌∙◌, ap, subst}
 use Rattle.std.proofs.lemmas.Bool.{true≢false}
@@ -24,10 +23,11 @@ use Rattle.bus_world.specs.Private.CyclicProtocols.{fork_of}
 use Rattle.bus_world.specs.Starting.{IsNewReceiver}
 use Rattle.bus_world.specs.World.{RecvDoes, recv_found}
 use Rattle.bus_world.specs.Trails.{answers_with, answers_joined, no_answers}
-use Rattle.bus_world.proofs.HearTrails.{IsTold, hears_later, hears_more, hears_left}
+use Rattle.bus_world.proofs.HearTrails.{IsTold, hears_later, hears_more, hears_left, told_later}
+use Rattle.bus_world.proofs.HearTrails.{each_joined, silent_joined, who_was_told}
 use Rattle.bus_world.proofs.LogLaws.{length-logged, log_words-append, index-read}
 use Rattle.bus_world.proofs.ReceivingLaws.{Receives-append}
-use Rattle.bus_world.proofs.Tying.{Hears}
+use Rattle.bus_world.proofs.Tying.{Hears, WasTold}
 use Rattle.bus_world.proofs.WorldLaws.{reads_more, words_stay, receiver_left}
 
 -- the receiver of a log that lies behind a row for each tenure
@@ -41,16 +41,11 @@ pub record HearsCyclic (x : Layout) (rows : ℕ) (frames : List Frame) (v : Rece
   pub own : IsReceiver x frames (length (log_words frames)) (placed x v)
   pub hears : Hears frames (placed x v) trail
 
--- answers of nobody: none, or those of a receiver whose number another has taken since
-abbrev pub WasTold : Layout → ℕ → List Frame → List RecvTurn → Type 0
-WasTold x rows frames trail =
-    (trail ≡ []) ⊎ ((v : Receiving) × HearsCyclic x rows frames v trail)
-
 -- each receiver has read, and was told; and who is none was told so once
 pub record AllHear (x : Layout) (rows : ℕ) (receivers : ℕ → Option Receiving) (frames : List Frame)
     (H : ℕ → List RecvTurn) : Type 0 where
   pub each : (r : ℕ) (v : Receiving) → receivers r ≡ Some v → HearsCyclic x rows frames v (H r)
-  pub silent : (r : ℕ) → receivers r ≡ None → WasTold x rows frames (H r)
+  pub silent : (r : ℕ) → receivers r ≡ None → WasTold frames (H r)
 
 -- ---- a receiver that has read nothing
 new_hears : (x : Layout) (rows : ℕ) (passed_at : Option ℕ) (v : Receiving)
@@ -115,10 +110,7 @@ pub all_after : (x : Layout) (rows : ℕ) (receivers : ℕ → Option Receiving)
     → AllHear x rows receivers (frames ++ f ∷ []) H
 all_after x rows receivers frames f H h = record {
   each = λ r v e. hears_after x rows frames f v (H r) (h.each r v e);
-  silent = λ r e. elim (h.silent r e) [
-    | inl none ↦ inl none
-    | inr was ↦ inr (was.0, hears_after x rows frames f was.0 (H r) was.1)
-  ];
+  silent = λ r e. told_later frames (f ∷ []) (H r) (h.silent r e);
 }
 
 -- ---- a turn
@@ -208,7 +200,7 @@ one_hears x rows frames receivers H h r v next answer at turns = record {
     | inl y ↦ absurd (let bad : None ≡ Some next =
         sym e ∙ ap (put r (Some next) receivers) y.1 ∙ put_here r (Some next) receivers in
         cc)
-    | inr y ↦ subst (WasTold x rows frames)
+    | inr y ↦ subst (WasTold frames)
         (sym (ap (λ t. H q ++ cond t (answer ∷ []) []) y.0 ∙ append-nil (H q)))
         (h.silent q (sym (put_beside r (Some next) receivers q y.1) ∙ e))
   ];
@@ -254,42 +246,22 @@ pub one_joins : (x : Layout) (rows : ℕ) (frames : List Frame) (receivers : ℕ
     → (j n : ℕ) (next w : Receiving) (before : List RecvTurn) → receivers j ≡ Some w
     → receivers n ≡ None → HearsCyclic x rows frames next before
     → AllHear x rows (put j (Some next) receivers) frames (answers_joined before j n H)
-one_joins x rows frames receivers H h j n next w before was nobody joins = record {
-  each = λ q u e. elim (eqb_tells q j) [
-    | inl y ↦
-        let u_is : next ≡ u = same_Some _ _
-        (sym (ap (put j (Some next) receivers) y.1 ∙ put_here j (Some next) receivers) ∙ e) in
-        subst (HearsCyclic x rows frames u)
-        (sym (ap (λ b. cond b before (cond (q == n) (H j) (H q))) y.0))
-        (subst (λ s. HearsCyclic x rows frames s before) u_is joins)
-    | inr y ↦
-        let old = sym (put_beside j (Some next) receivers q y.1) ∙ e in
-        subst (HearsCyclic x rows frames u) (sym (ap (λ b. cond b before
-        (cond (q == n) (H j) (H q))) y.0 ∙ apart q u old)) (h.each q u old)
-  ];
-  silent = λ q e. elim (eqb_tells q j) [
-    | inl y ↦ absurd (let bad : None ≡ Some next =
-        sym e ∙ ap (put j (Some next) receivers) y.1 ∙ put_here j (Some next) receivers in
-        cc)
-    | inr y ↦ subst (WasTold x rows frames)
-        (sym (ap (λ b. cond b before (cond (q == n) (H j) (H q))) y.0))
-        (kept q (sym (put_beside j (Some next) receivers q y.1) ∙ e))
-  ];
-} where
-  -- who is there is not the nobody
-  apart : (q : ℕ) (u : Receiving) → receivers q ≡ Some u → cond (q == n) (H j) (H q) ≡ H q
-  apart q u there = elim (eqb_tells q n) [
-    | inl y ↦ absurd (let bad : None ≡ Some u = sym nobody ∙ ap receivers (sym y.1) ∙ there in cc)
-    | inr y ↦ ap (λ b. cond b (H j) (H q)) y.0
-  ]
-
-  kept : (q : ℕ) → receivers q ≡ None → WasTold x rows frames (cond (q == n) (H j) (H q))
-  kept q none = elim (eqb_tells q n) [
-    | inl y ↦ subst (WasTold x rows frames) (sym (ap (λ b. cond b (H j) (H q)) y.0))
-        (inr (w, h.each j w was))
-    | inr y ↦ subst (WasTold x rows frames) (sym (ap (λ b. cond b (H j) (H q)) y.0))
-        (h.silent q none)
-  ]
+one_joins x rows frames receivers H h j n next w before was nobody joins =
+    let here = put_here j (Some next) receivers in
+    let beside = put_beside j (Some next) receivers in
+    let all = put j (Some next) receivers in
+    record {
+      each = each_joined (HearsCyclic x rows frames) (WasTold frames) receivers all H h.each
+          h.silent j n next here beside nobody before joins;
+      silent = silent_joined (HearsCyclic x rows frames) (WasTold frames) receivers all H h.each
+          h.silent j n next here beside nobody before (was_told (h.each j w was));
+    } where
+      was_told : HearsCyclic x rows frames w (H j) → WasTold frames (H j)
+      was_told h = inr (
+        placed x w,
+        (let o = h.own.receives in let a = o.place_below in let b = o.known_below in omega arith),
+        h.hears,
+      )
 
 -- by a fork it was told what that receiver was told
 pub forked_hears : (x : Layout) (rows : ℕ) (frames : List Frame) (j : ℕ) (v : Receiving)
@@ -321,8 +293,5 @@ told_in x rows receivers frames H h r = by_some (receivers r) refl
   where
     by_some : (o : Option Receiving) → receivers r ≡ o
         → (o : Option Receiving) × IsTold frames o (H r)
-    by_some None e = elim (h.silent r e) [
-      | inl none ↦ (None, none)
-      | inr was ↦ (Some (placed x was.0), was.1.hears)
-    ]
+    by_some None e = who_was_told frames (H r) (h.silent r e)
     by_some (Some v) e = (Some (placed x v), (h.each r v e).hears)

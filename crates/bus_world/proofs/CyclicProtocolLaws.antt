@@ -49,7 +49,7 @@ use Rattle.bus_core.specs.declared.reuses.Passing.{Passing}
 use Rattle.bus_world.specs.Private.Machines.{can_put, can_close}
 use Rattle.bus_world.specs.Private.CyclicProtocols.{CyclicProtocol, IsNewProtocol, Led, NewProtocol}
 use Rattle.bus_world.specs.Private.CyclicProtocols.{Turned, PutIn, MarkedIn, Heard, LeftFor}
-use Rattle.bus_world.specs.Private.CyclicProtocols.{Forked}
+use Rattle.bus_world.specs.Private.CyclicProtocols.{Forked, Copied}
 use Rattle.bus_world.specs.Private.CyclicProtocols.{going_actions, due_actions, due_in}
 use Rattle.bus_world.specs.Private.CyclicProtocols.{protocol_reclaimed}
 use Rattle.bus_world.specs.Private.CyclicProtocols.{protocol_after_going, protocol_after}
@@ -519,7 +519,11 @@ module _ {E : Type 0} (X : Election E) (P : Protocol E (Unit {0}) ℕ)
   led_kept H y T D L (Forked w U F J M i j n v u before at stays was gone up room nobody silent) =
       let k = led_kept J w U F M before in
       joins.fork_kept X P laws x ok width starts owner_is named announces apart rows two J w U F M
-      k.V k.frames k.kept j n u was room nobody i v at stays up
+      k.V k.frames k.kept j n u was nobody i v at stays up room
+  led_kept H y T D L (Copied w U F J M i j n v u before flat at stays was nobody silent) =
+      let k = led_kept J w U F M before in
+      joins.copy_kept X P laws x ok width starts owner_is named announces apart rows two J w U F M
+      k.V k.frames k.kept j n u was nobody flat i v at
 
   -- ---- what is promised
   above_it : (a k w : ℕ) → k < w → (a ≤ a + k) × (a + k < a + w)

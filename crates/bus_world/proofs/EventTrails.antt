@@ -1,5 +1,5 @@
 -- Every event keeps what ties the trails to the bus, and the promise follows from it.
-use Rattle.std.proofs.Common.{◌≡◌, ℕ, ◌+◌, ◌*◌, ◌<◌, ◌≤◌, Bool, true, false, cond, ◌&&◌, ◌==◌}
+use Rattle.std.proofs.Common.{◌≡◌, ℕ, ◌+◌, ◌*◌, ◌<◌, Bool, true, false, cond, ◌&&◌, ◌==◌}
 use Rattle.std.proofs.Common.{nat_lt, nat_le, Option, Some, None, is_some, inl, inr, List, [], ◌∷◌}
 use Rattle.std.proofs.Common.{◌++◌, length, map, take, slice_get, slice_index, slice_set, arith}
 use Rattle.std.proofs.Common.{refl, sym, ◌∙◌, ap, subst}
@@ -12,7 +12,6 @@ use Rattle.std.proofs.lemmas.Option.{same_Some, slice_get_within, none-some}
 use Rattle.bus_register.specs.declared.kinds.Kind.{Kind}
 use Rattle.bus_register.specs.declared.kinds.Kind.TheVariants as kind
 use Rattle.bus_register.specs.Protocol.{Protocol, Laws, inputs, outputs}
-use Rattle.bus_register.specs.Private.TableLaws.{get_set_same, get_set_other}
 use Rattle.bus_register.specs.declared.registers.SenderNo.{SenderNo}
 use Rattle.bus_batch.specs.declared.messages.Item.{Item}
 use Rattle.bus_batch.specs.Batches.{next_of}
@@ -22,8 +21,7 @@ use Rattle.bus_batch.specs.declared.messages.Mark.TheVariants as mark
 use Rattle.bus_batch.specs.Frames.{Frame, Leaves, log_words, log_pieces, order_of, owners_in}
 use Rattle.bus_batch.specs.Frames.{order_in, tenure_and_owner}
 use Rattle.bus_deliverylog.specs.Orders.{of_sender}
-use Rattle.bus_deliverylog.specs.Receiving.{Receiving, with_leave}
-use Rattle.bus_deliverylog.specs.declared.receiving.RecvTurn.{RecvTurn}
+use Rattle.bus_deliverylog.specs.Receiving.{Receiving}
 use Rattle.bus_tenure.specs.Core.{Core, Election, Layout}
 use Rattle.bus_tenure.specs.Situations.{kind_at, situation_of, line_of, op_at, answer_at}
 use Rattle.bus_tenure.specs.declared.turns.Turn.{Turn as Answered}
@@ -47,33 +45,34 @@ use Rattle.bus_world.proofs.BusLaws as bus
 use Rattle.bus_world.specs.Headline.{Action, HasPut, HasMarked, Stepped, puts, Took, Asked}
 use Rattle.bus_world.specs.Headline.{IsPrefix, Promises}
 use Rattle.bus_world.specs.Log.{next_number, sent_count, words_of_frame}
-use Rattle.bus_world.proofs.LogLaws.{length-logged, log_words-append}
+use Rattle.bus_world.proofs.LogLaws.{log_words-append}
 use Rattle.bus_world.specs.Private.Machines.{Side, side_after, core_after, Bus, going, IsEvent}
 use Rattle.bus_world.specs.Private.Machines.{Happens, SenderDoes, with_sender, can_put, can_close}
-use Rattle.bus_world.specs.Private.Machines.{put_in, mark_in, IsNew, is_open, LeaverDoes}
+use Rattle.bus_world.specs.Private.Machines.{put_in, mark_in, IsNew, is_open}
 use Rattle.bus_world.specs.Turning.{number_found}
 use Rattle.bus_world.proofs.TurningLaws.{side_of}
 use Rattle.bus_world.proofs.WorldLaws.{counted_at, event_left, event_puts, new_is_lawful}
-use Rattle.bus_world.proofs.WorldLaws.{found_flat, set_each}
-use Rattle.bus_world.specs.Private.Answers.{Answers, PutGives, CloseGives, TurnAnswers, RecvAnswers}
+use Rattle.bus_world.proofs.WorldLaws.{set_each}
+use Rattle.bus_world.specs.Private.Answers.{Answers, PutGives, CloseGives, TurnAnswers}
 use Rattle.bus_world.specs.Playing.{asked_answer}
 use Rattle.bus_world.specs.declared.events.Answer.{Answer}
 use Rattle.bus_world.specs.declared.events.Answer.TheVariants as answer
 use Rattle.bus_world.specs.Private.Trails.{Trails, no_trails, trails_grown, actions_of}
-use Rattle.bus_world.specs.Private.Trails.{turning_actions, heard_of, answer_heard, IsPromisedBy}
+use Rattle.bus_world.specs.Private.Trails.{turning_actions, IsPromisedBy}
 use Rattle.bus_world.specs.Private.Trails.{Reached, log_by, event_log}
-use Rattle.bus_world.specs.Trails.{put_actions, mark_actions, step_action}
-use Rattle.bus_world.specs.Private.Trails.Reached.{New, Then}
+use Rattle.bus_world.specs.Trails.{put_actions, mark_actions, step_action, answers_joined}
+use Rattle.bus_world.specs.Private.Trails.Reached.{New, Then, Copied}
 use Rattle.bus_world.specs.Private.Invariants.{LawfulBus}
+use Rattle.bus_world.specs.Private.Receiving.{IsReceiver, NeverPasses}
+use Rattle.bus_world.proofs.EventHears.{Heard, event_heard, copied_heard}
 use Rattle.bus_world.proofs.Stopping.{is_there}
 use Rattle.bus_world.proofs.Waiting.{with_frame, frames_after, put_by, waiting_of, waiting_at}
 use Rattle.bus_world.proofs.Waiting.{accepted, accepted_by, event_frames, frames_by}
-use Rattle.bus_world.proofs.Tying.{AreNumbered, Hears, Tied}
+use Rattle.bus_world.proofs.Tying.{AreNumbered, Tied}
 use Rattle.bus_world.proofs.Places.{got_split, none_in, only_one}
 use Rattle.bus_world.proofs.TableTrails.{plain_put, plain_mark}
 use Rattle.bus_world.proofs.TurnTrails.{Ties, turn_ties, batch_ties}
-use Rattle.bus_world.proofs.HearTrails.{IsTold, hears_later, hears_more, delivered_to, heads_to}
-use Rattle.bus_world.proofs.HearTrails.{silent_to, hears_left}
+use Rattle.bus_world.proofs.HearTrails.{IsTold, delivered_to, heads_to, silent_to, who_was_told}
 use Rattle.bus_world.proofs.Asking.{Askings, still_asked, askings_after, one_waits, frames_later}
 use Rattle.bus_world.proofs.Asking.{own_asked, own_asks, turn_waiting, turn_frames, open_no_marking}
 use Rattle.bus_world.proofs.PutLaws.{nothing_left}
@@ -353,123 +352,6 @@ module _ (bases : List ℕ) {E : Type 0} (X : Election E) (P : Protocol E (Unit 
         (subst (Askings (slice_get b.side.senders) frames) (sym (fun_ext (λ q. append-nil (D q))))
         C)
 
-  -- ---- the receivers
-  -- each has heard what stands below its place, and where there is none nothing is heard
-  record Heard (frames : List Frame) (receivers : List Receiving) (A : ℕ → List RecvTurn) :
-      Type 0 where
-    each : (r : ℕ) (v : Receiving) → slice_get receivers r ≡ Some v → Hears frames v (A r)
-    silent : (r : ℕ) → slice_get receivers r ≡ None → A r ≡ []
-
-  module _ (b b' : Bus E) (frames more : List Frame)
-      (h : LawfulBus (slice_index bases) P x b frames) (A : ℕ → List RecvTurn)
-      (H : Heard frames b.receivers A) where
-    below : (r : ℕ) (v : Receiving) → slice_get b.receivers r ≡ Some v
-        → v.place ≤ length (log_words frames)
-    below r v i =
-        let own = (h.keeps.receiving r v i).receives in
-        let log = h.keeps.sending.log in
-        let size = length-logged log in
-        let a = own.place_below in let d = own.known_below in omega arith
-
-    nobody_hears : b'.receivers ≡ b.receivers → Heard (frames ++ more) b'.receivers (λ r. A r ++ [])
-    nobody_hears same = record {
-      each = λ r v i.
-          let was = ap (λ z. slice_get z r) (sym same) ∙ i in
-          subst (Hears (frames ++ more) v) (sym (append-nil (A r)))
-          (hears_later frames more v (A r) (below r v was) (H.each r v was));
-      silent = λ r i. append-nil (A r) ∙ H.silent r (ap (λ z. slice_get z r) (sym same) ∙ i);
-    }
-
-    -- one that leaves hears nothing more, and what it heard stays
-    leaver_hears : (q : ℕ) (o : Option Receiving) → slice_get b.receivers q ≡ o
-        → LeaverDoes b.receivers q o b'.receivers
-        → Heard (frames ++ more) b'.receivers (λ r. A r ++ [])
-    leaver_hears q None i d = nobody_hears d
-    leaver_hears q (Some v) i d = record {
-      each = λ r u j. set_each b.receivers q v (with_leave v) i
-          (λ n w. Hears (frames ++ more) w (A n ++ [])) later
-          (hears_left (frames ++ more) v (A q ++ []) (later q v i)) r u
-          (ap (λ z. slice_get z r) (sym d) ∙ j);
-      silent = λ r j. elim (eqb_tells r q) [
-        | inl y ↦ absurd (none-some (with_leave v) (sym j ∙ ap (slice_get b'.receivers) y.1
-            ∙ ap (λ z. slice_get z q) d ∙ get_set_same b.receivers q (with_leave v)
-            (slice_get_within b.receivers q v i)))
-        | inr y ↦
-            append-nil (A r)
-            ∙ H.silent r (sym (get_set_other b.receivers q (with_leave v) r y.1)
-            ∙ ap (λ z. slice_get z r) (sym d) ∙ j)
-      ];
-    } where
-      later : (r : ℕ) (w : Receiving) → slice_get b.receivers r ≡ Some w
-          → Hears (frames ++ more) w (A r ++ [])
-      later r w j = subst (Hears (frames ++ more) w) (sym (append-nil (A r)))
-          (hears_later frames more w (A r) (below r w j) (H.each r w j))
-
-    one_hears : b'.side ≡ b.side → (lawful : LawfulBus (slice_index bases) P x b' (frames ++ more))
-        → (q : ℕ) (o : Option Receiving) → slice_get b.receivers q ≡ o → (a : Answer)
-        → RecvAnswers b.side.words b.receivers q o a b'.receivers
-        → Heard (frames ++ more) b'.receivers (λ r. A r ++ cond (r == q) (answer_heard a) [])
-    one_hears side lawful q None i a w = absurd w
-    one_hears side lawful q (Some v) i a w = subst
-        (λ z. Heard (frames ++ more) b'.receivers (λ r. A r ++ cond (r == q) (answer_heard z) []))
-        (sym w.4) record {
-          each = λ r u j. elim (eqb_tells r q) [
-            | inl y ↦
-                let u_is : w.0 ≡ u = same_Some _ _
-                (sym (get_set_same b.receivers q w.0 there) ∙ ap (λ z. slice_get z q) (sym w.3)
-                ∙ ap (slice_get b'.receivers) (sym y.1) ∙ j) in
-                subst (λ t. Hears (frames ++ more) u (A r ++ cond t (w.1 ∷ []) [])) (sym y.0)
-                (subst (λ z. Hears (frames ++ more) u (A z ++ w.1 ∷ [])) (sym y.1)
-                (subst (λ z. Hears (frames ++ more) z (A q ++ w.1 ∷ [])) u_is
-                (hears_later frames more w.0 (A q ++ w.1 ∷ [])
-                (next_below (subst (λ z. slice_get b'.receivers q ≡ Some z) refl
-                (ap (λ z. slice_get z q) w.3 ∙ get_set_same b.receivers q w.0 there)))
-                (hears_more x.senders frames (slice_index b.side.words 0)
-                h.keeps.sending.log.lawful (length-logged h.keeps.sending.log) v
-                (h.keeps.receiving q v i).senders (h.keeps.receiving q v i).receives (A q)
-                (H.each q v i) w.1 w.0 (slice_index b.side.words)
-                (found_flat x flat frames (slice_index b.side.words) h.keeps.sending.log v
-                (h.keeps.receiving q v i)) w.2))))
-            | inr y ↦
-                let was =
-                sym (get_set_other b.receivers q w.0 r y.1) ∙ ap (λ z. slice_get z r) (sym w.3)
-                ∙ j in
-                subst (λ t. Hears (frames ++ more) u (A r ++ cond t (w.1 ∷ []) [])) (sym y.0)
-                (subst (Hears (frames ++ more) u) (sym (append-nil (A r)))
-                (hears_later frames more u (A r) (below r u was) (H.each r u was)))
-          ];
-          silent = λ r j. elim (eqb_tells r q) [
-            | inl y ↦ absurd (none-some w.0 (sym j ∙ ap (slice_get b'.receivers) y.1
-                ∙ ap (λ z. slice_get z q) w.3 ∙ get_set_same b.receivers q w.0 there))
-            | inr y ↦
-                ap (λ t. A r ++ cond t (w.1 ∷ []) []) y.0 ∙ append-nil (A r)
-                ∙ H.silent r (sym (get_set_other b.receivers q w.0 r y.1)
-                ∙ ap (λ z. slice_get z r) (sym w.3) ∙ j)
-          ];
-        } where
-          there : q < length b.receivers
-          there = slice_get_within b.receivers q v i
-
-          -- a receiver takes no place past the length that it knew
-          next_below : slice_get b'.receivers q ≡ Some w.0 → w.0.place ≤ length (log_words frames)
-          next_below j =
-              let own = (lawful.keeps.receiving q w.0 j).receives in
-              let log = h.keeps.sending.log in
-              let size = length-logged log in
-              let same : slice_index b'.side.words 0 ≡ slice_index b.side.words 0 =
-              ap (λ (z : Side E). slice_index z.words 0) side in
-              let a = own.place_below in let d = own.known_below in omega arith
-
-    event_heard : LawfulBus (slice_index bases) P x b' (frames ++ more) → (e : Event) (a : Answer)
-        → Happens X b e b' → Answers X b e a b'
-        → Heard (frames ++ more) b'.receivers (λ r. A r ++ heard_of e a r)
-    event_heard lawful (Put s bytes) a d w = nobody_hears d.1
-    event_heard lawful (Ask s m) a d w = nobody_hears d.1
-    event_heard lawful (Turn s word) a d w = nobody_hears d.1
-    event_heard lawful (Recv r) a d w = one_hears d.0 lawful r (slice_get b.receivers r) refl a w
-    event_heard lawful (Stop s) a d w = nobody_hears d.1
-    event_heard lawful (Gone r) a d w = leaver_hears r (slice_get b.receivers r) refl d.1
-
   -- ---- the numbers of messages
   module _ (b : Bus E) (frames : List Frame) (h : LawfulBus (slice_index bases) P x b frames) where
     busy_apart : (busy : Bool) → busy ≡ true → cond busy false true ≡ true → ⊥
@@ -575,6 +457,9 @@ module _ (bases : List ℕ) {E : Type 0} (X : Election E) (P : Protocol E (Unit 
     pub log_is : log_words frames ≡ T.log
     pub tied : Tied bases P x b frames T
 
+  abbrev hears_of : (b : Bus E) (T : Trails) (k : Kept b T) → Heard k.frames b.receivers T.heard
+  hears_of b T k = record { each = k.tied.heard; silent = k.tied.silent }
+
   -- with these frames and more
   pub record KeptOn (frames : List Frame) (b : Bus E) (T : Trails) : Type 0 where
     pub more : List Frame
@@ -594,8 +479,8 @@ module _ (bases : List ℕ) {E : Type 0} (X : Election E) (P : Protocol E (Unit 
       after.left.lawful in
       let t = event_ties b b' k.frames k.lawful T.actions
       record { tables = k.tied.tables; takers = k.tied.takers } e a d w in
-      let heard = event_heard b b' k.frames more k.lawful T.heard
-      record { each = k.tied.heard; silent = k.tied.silent } lawful e a d w in
+      let heard = event_heard bases X P x flat b b' k.frames more k.lawful T.heard (hears_of b T k)
+      lawful e a d w in
       record {
         more = more;
         lawful = lawful;
@@ -635,6 +520,41 @@ module _ (bases : List ℕ) {E : Type 0} (X : Election E) (P : Protocol E (Unit 
       → Happens X b e b' → Answers X b e a b' → Kept b' (trails_grown X b e a T)
   event_kept b b' e a T k is d w =
       kept_of k.frames b' (trails_grown X b e a T) (event_on b b' e a T k is d w)
+
+  -- ---- a receiver that is copied to another number
+  copied_kept : (b : Bus E) (T : Trails) (k : Kept b T) (i j n : ℕ) (v w : Receiving)
+      → slice_get b.receivers i ≡ Some v → slice_get b.receivers j ≡ Some w
+      → slice_get b.receivers n ≡ None
+      → Kept (record b { receivers = slice_set b.receivers j v })
+      (record T { heard = answers_joined (T.heard i) j n T.heard })
+  copied_kept b T k i j n v w from was nobody =
+      let h = k.lawful in
+      let heard = copied_heard bases X P x flat b k.frames h T.heard (hears_of b T k) i j n v w from
+      was nobody in
+      record {
+        frames = k.frames;
+        lawful = record {
+          words = h.words;
+          keeps = record {
+            sending = h.keeps.sending;
+            receiving = set_each b.receivers j w v was
+                (λ q u. IsReceiver x k.frames (slice_index b.side.words 0) u) h.keeps.receiving
+                (h.keeps.receiving i v from);
+            never = set_each b.receivers j w v was (λ q u. NeverPasses u) h.keeps.never
+                (h.keeps.never i v from);
+          };
+        };
+        log_is = k.log_is;
+        tied = record {
+          tables = k.tied.tables;
+          takers = k.tied.takers;
+          puts = k.tied.puts;
+          counted = k.tied.counted;
+          heard = heard.each;
+          silent = heard.silent;
+          askings = k.tied.askings;
+        };
+      }
 
   -- ---- a new bus
   module _ (b : Bus E) (new : IsNew bases x b) where
@@ -682,7 +602,7 @@ module _ (bases : List ℕ) {E : Type 0} (X : Election E) (P : Protocol E (Unit 
               going = λ e. refl;
               silent = λ j k a e l f. absurd (none_in j _ e);
             };
-        silent = λ r i. refl;
+        silent = λ r i. inl refl;
         askings = record {
           waiting = λ q c m i waits. absurd (open_no_marking m
               (ap (λ (z : Core E). z.queue.phase) (sym (new.senders q c i).1) ∙ waits));
@@ -702,11 +622,11 @@ module _ (bases : List ℕ) {E : Type 0} (X : Election E) (P : Protocol E (Unit 
         (k.tied.tables.elections t) (k.tied.tables.kept t l)
 
     told_of : (r : ℕ) (o : Option Receiving) → slice_get b.receivers r ≡ o
-        → IsTold frames o (T.heard r)
-    told_of r (Some v) i = k.tied.heard r v i
-    told_of r None i = k.tied.silent r i
+        → (o : Option Receiving) × IsTold frames o (T.heard r)
+    told_of r (Some v) i = (Some v, k.tied.heard r v i)
+    told_of r None i = who_was_told frames (T.heard r) (k.tied.silent r i)
 
-    told_by : (r : ℕ) → IsTold frames (slice_get b.receivers r) (T.heard r)
+    told_by : (r : ℕ) → (o : Option Receiving) × IsTold frames o (T.heard r)
     told_by r = told_of r (slice_get b.receivers r) refl
 
     pub page : Promises (slice_index bases) T.actions T.heard (order_of frames)
@@ -728,8 +648,8 @@ module _ (bases : List ℕ) {E : Type 0} (X : Election E) (P : Protocol E (Unit 
       rising = λ i j t u o p e g l.
           rise x.senders 0 frames k.lawful.keeps.sending.log.lawful i j t u o p e g l;
       delivered = λ r. delivered_to x.senders frames k.lawful.keeps.sending.log.lawful
-          (slice_get b.receivers r) (T.heard r) (told_by r);
-      told = λ r. heads_to frames (slice_get b.receivers r) (T.heard r) (told_by r);
+          (told_by r).0 (T.heard r) (told_by r).1;
+      told = λ r. heads_to frames (told_by r).0 (T.heard r) (told_by r).1;
       faithful = record {
         numbered = λ s q i e. counted_at (slice_index bases s) (of_sender s (order_of frames)) q i
             (k.lawful.keeps.sending.log.counted s) e;
@@ -738,7 +658,7 @@ module _ (bases : List ℕ) {E : Type 0} (X : Election E) (P : Protocol E (Unit 
             (record { rest = waiting_of (slice_get b.side.senders s); together = refl });
       };
       numbered = k.tied.counted;
-      silent = λ r. silent_to frames (slice_get b.receivers r) (T.heard r) (told_by r);
+      silent = λ r. silent_to frames (told_by r).0 (T.heard r) (told_by r).1;
       closed = λ e.
           let l = last_frame x.senders 0 frames k.lawful.keeps.sending.log.lawful e in
           record {
@@ -782,6 +702,8 @@ module _ (bases : List ℕ) {E : Type 0} (X : Election E) (P : Protocol E (Unit 
   reached_kept b T (New start new) = start_kept start new
   reached_kept b T (Then old new T' e a r is d w) =
       event_kept old new e a T' (reached_kept old T' r) is d w
+  reached_kept b T (Copied old T' i j n v w r from was nobody nothing) =
+      copied_kept old T' (reached_kept old T' r) i j n v w from was nobody
 
 -- the first step of an election is the announcement
 pub announce_first : {S : Type 0} (kind_of : S → Option Kind) (stage : Stage S)

@@ -479,6 +479,23 @@ module _ (x : Layout) (rows : ℕ) where
             left = λ gone l. absurd (true≢false (sym gone ∙ stays));
           }
 
+    -- Where there are no passed places nothing is stored, and any receiver that there is gives a
+    -- place of its own to any number.
+    module _ (flat : x.passers ≡ 0) (i j : ℕ) (v w : Receiving) (there : receivers i ≡ Some v)
+        (was : receivers j ≡ Some w) where
+      pub floors_copied : AreFloors x rows words passing
+          (put j (Some (record v { passed_at = passed_of x rows j })) receivers) frames len floor
+      floors_copied =
+          let p = h.each i v there in
+          floors_heard j w was (record v { passed_at = passed_of x rows j }) record {
+            at = refl;
+            many = inl flat;
+            past = p.past;
+            behind = p.behind;
+            shows = λ s l. absurd (omega arith);
+            left = λ gone l. absurd (omega arith);
+          }
+
     -- what a passed place shows is at most the number that stands for all words
     pub shown_low : length (log_words frames) ≡ len → len < NUMBERS → (r : ℕ) → r < x.passers
         → shown words r ≤ PASSED_ALL

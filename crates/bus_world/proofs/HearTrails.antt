@@ -2,19 +2,21 @@
 use Rattle.std.proofs.Common.{◌≡◌, ◌≢◌, ℕ, zero, suc, ◌+◌, ◌<◌, ◌≤◌, Bool, true, false, ◌||◌}
 use Rattle.std.proofs.Common.{Option, Some, None, ◌⊎◌, inl, inr, List, [], ◌∷◌, ◌++◌, length, map}
 use Rattle.std.proofs.Common.{flat_map, take, drop, slice_get, slice_index, arith, refl, sym, ◌∙◌}
-use Rattle.std.proofs.Common.{ap, subst}
+use Rattle.std.proofs.Common.{ap, subst, ◌==◌, cond}
 use Rattle.std.specs.List.{list_any}
 use Rattle.std.proofs.Math.Bool.{or-false}
 use Rattle.std.proofs.lemmas.Bool.{cases_eq, cases_lt, or_right}
+use Rattle.std.proofs.lemmas.Bool.Decides.{eqb_tells}
 use Rattle.std.proofs.lemmas.Grind.{flat_map-append}
-use Rattle.std.proofs.lemmas.List.{append-nil, take-append-le, take-append-drop, take_more}
+use Rattle.std.proofs.lemmas.List.{append-nil, length-append, take-append-le, take-append-drop}
+use Rattle.std.proofs.lemmas.List.{take_more}
 use Rattle.std.proofs.lemmas.List.Folds.{list_any-append}
 use Rattle.std.proofs.lemmas.Option.{same_Some, slice_get_within, get_or_from_slice_get}
 use Rattle.bus_batch.specs.declared.messages.Piece.{Piece}
 use Rattle.bus_batch.specs.declared.messages.Piece.TheVariants as piece
 use Rattle.bus_batch.specs.Frames.{Frame, Order, Entry, AreFrames, log_words, log_pieces}
-use Rattle.bus_batch.specs.Frames.{frame_pieces, order_of, order_in, owners_in, piece_entries}
-use Rattle.bus_batch.specs.Frames.{piece_owners, is_end, tenure_and_owner}
+use Rattle.bus_batch.specs.Frames.{frame_words, frame_pieces, order_of, order_in, owners_in}
+use Rattle.bus_batch.specs.Frames.{piece_entries, piece_owners, is_end, tenure_and_owner}
 use Rattle.bus_batch.proofs.PieceLaws.{owners_in-log}
 use Rattle.bus_deliverylog.specs.Orders.{IsPrefixOfOrder}
 use Rattle.bus_deliverylog.specs.Receiving.{Receiving, LogReading, turn_of, passing_due}
@@ -25,7 +27,8 @@ use Rattle.bus_world.proofs.ReceivingLaws.{given_is_prefix, length-log_pieces, n
 use Rattle.bus_world.specs.Headline.{entry_heard, end_heard, head_heard, order_given, heads}
 use Rattle.bus_world.specs.Headline.{IsPrefix}
 use Rattle.bus_world.proofs.Places.{got_split, only_one}
-use Rattle.bus_world.proofs.Tying.{Hears, IsSilent}
+use Rattle.bus_world.proofs.Tying.{Hears, IsSilent, WasTold}
+use Rattle.bus_world.specs.Trails.{answers_joined}
 use Rattle.bus_world.specs.World.{RecvDoes, RecvStep, recv_found}
 use Rattle.bus_world.specs.Private.Receiving.{Receives, IsFoundIn}
 use Rattle.bus_world.specs.Private.Invariants.{given_at}
@@ -112,6 +115,18 @@ hears_later frames more v trail l h =
       going = h.going;
       silent = h.silent;
     }
+
+-- answers of nobody stay answers of nobody
+pub told_later : (frames more : List Frame) (trail : List RecvTurn) → WasTold frames trail
+    → WasTold (frames ++ more) trail
+told_later frames more trail told = elim told [
+  | inl none ↦ inl none
+  | inr was ↦
+      let low = was.1 in
+      let longer = ap length (flat_map-append frame_words frames more)
+      ∙ length-append (log_words frames) (log_words more) in
+      inr (was.0, (omega arith), hears_later frames more was.0 trail low was.2)
+]
 
 -- ---- a receiver that has left for good
 pub hears_left : (frames : List Frame) (v : Receiving) (trail : List RecvTurn)
@@ -324,11 +339,64 @@ module _ (n : ℕ) (frames : List Frame) (len : ℕ) (lawful : AreFrames n frame
       by_end false e =
           hears_step (recv_found words v) found e (does.going e) (passing_due v) refl
 
+-- ---- a receiver joins with the number j
+-- what is so of each receiver and its answers, and of the answers of nobody, stays so
+module _ (Each : Receiving → List RecvTurn → Type 0) (Silent : List RecvTurn → Type 0)
+    (old new : ℕ → Option Receiving) (H : ℕ → List RecvTurn)
+    (each : (q : ℕ) (u : Receiving) → old q ≡ Some u → Each u (H q))
+    (silent : (q : ℕ) → old q ≡ None → Silent (H q)) (j n : ℕ) (next : Receiving)
+    (here : new j ≡ Some next) (beside : (q : ℕ) → q ≢ j → new q ≡ old q)
+    (nobody : old n ≡ None) (before : List RecvTurn) where
+  -- its number has these answers, and each other but n those that it had
+  at_number : (q : ℕ) → q ≡ j → before ≡ answers_joined before j n H q
+  at_number q i = elim (eqb_tells q j) [
+    | inl y ↦ sym (ap (λ t. cond t before (cond (q == n) (H j) (H q))) y.0)
+    | inr y ↦ absurd (y.1 i)
+  ]
+
+  at_others : (q : ℕ) → q ≢ j → cond (q == n) (H j) (H q) ≡ answers_joined before j n H q
+  at_others q ne = elim (eqb_tells q j) [
+    | inl y ↦ absurd (ne y.1)
+    | inr y ↦ sym (ap (λ t. cond t before (cond (q == n) (H j) (H q))) y.0)
+  ]
+
+  pub each_joined : Each next before → (q : ℕ) (u : Receiving) → new q ≡ Some u
+      → Each u (answers_joined before j n H q)
+  each_joined joins q u e = elim (cases_eq q j) [
+    | inl i ↦ subst (Each u) (at_number q i)
+        (subst (λ s. Each s before) (same_Some _ _ (sym (ap new i ∙ here) ∙ e)) joins)
+    | inr ne ↦
+        let there = sym (beside q ne) ∙ e in
+        subst (Each u) (at_others q ne) (elim (eqb_tells q n) [
+          | inl y ↦ absurd (let bad : None ≡ Some u = sym nobody ∙ ap old (sym y.1) ∙ there in cc)
+          | inr y ↦ subst (λ t. Each u (cond t (H j) (H q))) (sym y.0) (each q u there)
+        ])
+  ]
+
+  pub silent_joined : Silent (H j) → (q : ℕ) → new q ≡ None
+      → Silent (answers_joined before j n H q)
+  silent_joined was q e = elim (cases_eq q j) [
+    | inl i ↦ absurd (let bad : None ≡ Some next = sym e ∙ ap new i ∙ here in cc)
+    | inr ne ↦ subst Silent (at_others q ne) (elim (eqb_tells q n) [
+      | inl y ↦ subst (λ t. Silent (cond t (H j) (H q))) (sym y.0) was
+      | inr y ↦ subst (λ t. Silent (cond t (H j) (H q))) (sym y.0)
+          (silent q (sym (beside q ne) ∙ e))
+    ])
+  ]
+
 -- ---- what is promised of answers
 -- a receiver has been told what stands below its place; who is none was told nothing
 abbrev pub IsTold : List Frame → Option Receiving → List RecvTurn → Type 0
 IsTold frames None trail = trail ≡ []
 IsTold frames (Some v) trail = Hears frames v trail
+
+-- answers of nobody are those of somebody, or none
+pub who_was_told : (frames : List Frame) (trail : List RecvTurn) → WasTold frames trail
+    → (o : Option Receiving) × IsTold frames o trail
+who_was_told frames trail told = elim told [
+  | inl none ↦ (None, none)
+  | inr was ↦ (Some was.0, was.2)
+]
 
 heads_prefix : (frames : List Frame) (n : ℕ)
     → IsPrefix (owners_in (take n (log_pieces frames))) (map tenure_and_owner frames)

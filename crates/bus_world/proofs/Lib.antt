@@ -57,6 +57,9 @@ pub mod Framing
 pub mod Growing
 -- What the election of any ratifier has, so that a bus goes by it.
 pub mod Serving
+-- Every event keeps what ties the trails to the receivers, and so does a receiver that is copied to
+-- another number.
+pub mod EventHears
 -- Every event keeps what ties the trails to the bus, and the promise follows from it.
 pub mod EventTrails
 -- Each of the wrong behaviours is refused.
@@ -108,7 +111,7 @@ pub mod CyclicProtocolReads
 -- number no less than what stood there, where a frame begins or past all words.
 pub mod CyclicProtocolPasses
 -- Whoever joins keeps all that is kept: a receiver that has not left stores its passed place in
--- that of a higher number.
+-- that of a higher number, or takes no step where there are no passed places.
 pub mod CyclicProtocolJoins
 -- Whatever senders do whose rows are used again, it is as if each tenure had a row for itself.
 pub mod CyclicProtocolLaws

@@ -1,8 +1,8 @@
 -- What ties the trails to the state of the bus.
-use Rattle.std.specs.Prelude.{◌≡◌, ℕ, ◌+◌, ◌*◌, ◌<◌, ◌≤◌, true, false, Option, Some, None, List}
-use Rattle.std.specs.Prelude.{[], length, take, slice_get, slice_index}
+use Rattle.std.specs.Prelude.{◌≡◌, ◌⊎◌, ℕ, ◌+◌, ◌*◌, ◌<◌, ◌≤◌, true, false, Option, Some, None}
+use Rattle.std.specs.Prelude.{List, [], length, take, slice_get, slice_index}
 use Rattle.bus_register.specs.Protocol.{Protocol, inputs, outputs}
-use Rattle.bus_batch.specs.Frames.{Frame, log_pieces, owners_in}
+use Rattle.bus_batch.specs.Frames.{Frame, log_words, log_pieces, owners_in}
 use Rattle.bus_deliverylog.specs.declared.receiving.RecvTurn.{RecvTurn}
 use Rattle.bus_deliverylog.specs.declared.receiving.RecvTurn.TheVariants as recv
 use Rattle.bus_deliverylog.specs.Receiving.{Receiving}
@@ -66,6 +66,12 @@ pub record Hears (frames : List Frame) (v : Receiving) (trail : List RecvTurn) :
   pub going : v.ended ≡ false → (order_given trail).ended ≡ false
   pub silent : IsSilent trail
 
+-- answers of nobody: none, or those of a receiver whose number another has taken since
+abbrev pub WasTold : List Frame → List RecvTurn → Type 0
+WasTold frames trail =
+    (trail ≡ [])
+    ⊎ ((v : Receiving) × (v.place ≤ length (log_words frames)) × Hears frames v trail)
+
 -- each accepted message was answered this number and how many were put before it
 abbrev pub AreNumbered : ℕ → List Action → Type 0
 AreNumbered first trail =
@@ -81,5 +87,5 @@ pub record Tied {E : Type 0} (bases : List ℕ) (P : Protocol E (Unit {0}) ℕ) 
   pub counted : (s : ℕ) → AreNumbered (slice_index bases s) (T.actions s)
   pub heard : (r : ℕ) (v : Receiving) → slice_get b.receivers r ≡ Some v
       → Hears frames v (T.heard r)
-  pub silent : (r : ℕ) → slice_get b.receivers r ≡ None → T.heard r ≡ []
+  pub silent : (r : ℕ) → slice_get b.receivers r ≡ None → WasTold frames (T.heard r)
   pub askings : Askings (slice_get b.side.senders) frames T.actions

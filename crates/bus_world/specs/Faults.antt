@@ -23,3 +23,4 @@ step_fault_text (fault.Put why) = put_fault_text why
 step_fault_text (fault.Close why) = close_fault_text why
 step_fault_text fault.Stopped = codes "sender stopped"
 step_fault_text fault.Gone = codes "receiver gone"
+step_fault_text fault.NotAbove = codes "number not above"

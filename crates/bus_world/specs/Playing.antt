@@ -36,3 +36,11 @@ asked_answer Leave = answer.Leaving
 abbrev pub RecvRefused : Option Receiving → StepFault → Type 0
 RecvRefused None why = why ≡ fault.NoSuchReceiver
 RecvRefused (Some v) why = (v.gone ≡ true) × (why ≡ fault.Gone)
+
+-- Why a receiver does not fork to this number, of which these are the receivers: either is not
+-- there; the number is not above; or the one that was to fork has left.
+abbrev pub ForkRefused : Option Receiving → Option Receiving → (i j : ℕ) → StepFault → Type 0
+ForkRefused None other i j why = why ≡ fault.NoSuchReceiver
+ForkRefused (Some v) None i j why = why ≡ fault.NoSuchReceiver
+ForkRefused (Some v) (Some w) i j why =
+    ((j ≤ i) × (why ≡ fault.NotAbove)) ⊎ ((i < j) × (v.gone ≡ true) × (why ≡ fault.Gone))

@@ -57,6 +57,8 @@ pub enum StepFault {
     Close(CloseFault),
     /// The receiver has left for good.
     Gone,
+    /// Of a fork alone: the number of the new receiver is not above that of its maker.
+    NotAbove,
 }
 
 /// The first event that was refused. Those before its place have happened, and no other.

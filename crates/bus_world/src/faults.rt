@@ -40,6 +40,7 @@ impl fmt::Display for StepFault {
             StepFault::Put(why) => why.fmt(f),
             StepFault::Close(why) => why.fmt(f),
             StepFault::Gone => f.write_str("receiver gone"),
+            StepFault::NotAbove => f.write_str("number not above"),
         }
     }
 }

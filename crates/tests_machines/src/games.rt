@@ -135,6 +135,17 @@ impl Game {
         same(rt, &self.world.gone(receiver), &want);
     }
 
+    /// Wants that a fork to this number is answered so.
+    pub fn forks(
+        &mut self,
+        rt: &impl Abort,
+        receiver: u64,
+        number: u64,
+        want: Result<bool, StepFault>,
+    ) {
+        same(rt, &self.world.fork(receiver, number), &want);
+    }
+
     /// One turn of a sender.
     pub fn turn(&mut self, rt: &impl Abort, sender: u64, word: u32) -> Turn {
         match self.step(&Event::Turn { sender, word }) {

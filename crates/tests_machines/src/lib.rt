@@ -8,6 +8,8 @@ mod cyclic;
 #[cfg(test)]
 mod dice;
 #[cfg(test)]
+mod forks;
+#[cfg(test)]
 mod games;
 #[cfg(test)]
 mod replays;

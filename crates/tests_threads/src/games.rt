@@ -116,7 +116,7 @@ pub fn made(
         FirstLine::Cycle(shape) => {
             Bus::cyclic(alloc, with_one_more(shape), None).expect(rt, "memory")
         }
-        FirstLine::Ring(_) => panic!(rt; "no row of these is of a ring"),
+        FirstLine::Ring { .. } => panic!(rt; "no row of these is of a ring"),
     }
 }
 

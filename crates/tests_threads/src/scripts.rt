@@ -4,6 +4,7 @@ use crate::both::{Both, leave_the_same};
 use crate::games::{Game, Seats, play_on};
 use bus_adoptcommit::ThreeWord;
 use bus_machine::World;
+use bus_replay::commands::Command;
 use bus_replay::lines::{FirstLine, command_of, first_of};
 use bus_script::Lines;
 use std::process::Abort;
@@ -36,9 +37,11 @@ impl<'s> Game for Script<'s> {
 /// Does what a line says.
 fn do_line<R: Abort + AllocGlobal>(rt: &R, both: &mut Both<'_>, line: &[u8]) {
     let command = command_of(rt.alloc(), line).expect(rt, "memory");
-    let command = command.expect(rt, "a line");
-    for _ in 0..command.times {
-        if !both.take(rt, &command.event) {
+    let Command::Play { event, times } = command.expect(rt, "a line") else {
+        panic!(rt; "no line of these is a fork");
+    };
+    for _ in 0..times {
+        if !both.take(rt, &event) {
             return;
         }
     }

@@ -19,7 +19,8 @@ use Rattle.bus_core.specs.Senders.{Sender, situation}
 use Rattle.bus_core.specs.Private.Bridge.{with_a_row_each}
 use Rattle.bus_core.specs.Table.{line_now}
 use Rattle.bus_core.specs.declared.limits.TheConstants.{PASSED_APART}
-use Rattle.bus_deliverylog.specs.Receiving.{Receiving, with_leave}
+use Rattle.bus_deliverylog.specs.Receiving.{Receiving, with_leave, joining_by, joining_op}
+use Rattle.bus_deliverylog.specs.Receiving.{forked_at}
 use Rattle.bus_presence.proofs.ReclamationKept.{lt_tells}
 use Rattle.bus_deliverylog.specs.declared.receiving.RecvTurn.{RecvTurn}
 use Rattle.bus_tenure.specs.Core.{Core, Election, Layout, is_empty, log_at, stage_at}
@@ -31,7 +32,8 @@ use Rattle.bus_world.specs.Headline.{Action}
 use Rattle.bus_world.specs.Log.{words_of_frame}
 use Rattle.bus_world.specs.Private.Answers.{TurnAnswers, PutGives, CloseGives, RecvAnswers}
 use Rattle.bus_world.specs.Private.Answers.{StopGives, LeaveGives}
-use Rattle.bus_world.specs.Private.Trails.{New, Then, turning_actions, turn_actions, log_by}
+use Rattle.bus_world.specs.Private.Trails.{New, Then, Copied, turning_actions, turn_actions}
+use Rattle.bus_world.specs.Private.Trails.{log_by}
 use Rattle.bus_world.specs.Private.Trails.{heard_of, trails_grown as plain_grown}
 use Rattle.bus_world.specs.Private.Trails.{Reached as PlainReached}
 use Rattle.bus_world.specs.Private.Machines.{side_after, core_after, home_after, Bus, SenderDoes}
@@ -49,7 +51,8 @@ use Rattle.bus_world.specs.declared.events.Answer.TheVariants as answer
 use Rattle.bus_machine.specs.Private.Bridge.{of_bus, plain_trails, IsPlainEvent, HappensAtNone}
 use Rattle.bus_machine.specs.Private.Bridge.{IsPlain, NonePasses}
 use Rattle.bus_machine.specs.Machine.{base_of, Machine, Trails, Reached, New as Start}
-use Rattle.bus_machine.specs.Machine.{Then as Next, Joins, JoinsAs, TakesTurn, TakesPut, TakesMark}
+use Rattle.bus_machine.specs.Machine.{Then as Next, Joins, Forks, fork_in, trails_joined}
+use Rattle.bus_machine.specs.Machine.{TakesTurn, TakesPut, TakesMark}
 use Rattle.bus_machine.specs.Machine.{StopsNow, Hears, LeavesForGood, Happens, IsNew}
 use Rattle.bus_machine.specs.Machine.{no_machine_trails, trails_grown, turn_grown, turn_trails}
 use Rattle.bus_machine.specs.Machine.{log_place, going, passed_by, passers_place, stage_of}
@@ -358,15 +361,40 @@ passed_past x o r place e = by (nat_lt r x.passers) e where
       let same : passers_place x o + PASSED_APART * r ≡ place = same_Some _ _ i in
       let past = passers_behind x o in omega arith
 
--- a fork leaves the stage
-pub fork_rises : {E : Type 0} (X : Election E) (m m' : Machine E) (H : ℕ → List RecvTurn)
-    (j : ℕ) (next : Receiving) (before : List RecvTurn) → JoinsAs m H j next before m'
-    → stage_of m ≤ stage_of m'
-fork_rises {E} X m m' H j next before h =
-    let past = passed_past m.layout m.reuse j h.place h.at in
-    let now = ap (λ (y : Machine E). stage_of y) h.after
-    ∙ get_or-set_other m.words h.place stage_at next.passed 0 (λ same. omega arith) in
-    omega arith
+-- ---- a fork that is done
+module _ {E : Type 0} (m m' : Machine E) (i j : ℕ) (h : Forks m i j true m') where
+  -- with the passed place that its number has, if it has one
+  abbrev forked_by : Option ℕ → Machine E
+  forked_by o = record m {
+    words = words_after m.words (joining_by o h.maker.passed);
+    receivers = slice_set m.receivers j (forked_at o h.maker);
+  }
+
+  -- its step found 2^64 - 1, so it is a store of what the maker has passed
+  pub fork_stores : (place : ℕ) → passed_by m.layout m.reuse j ≡ Some place
+      → words_after m.words (joining_op (fork_in m j h.maker))
+      ≡ slice_set m.words place h.maker.passed
+  fork_stores place at =
+      ap (λ o. words_after m.words (joining_by o h.maker.passed)) at
+      ∙ ap (λ b. slice_set m.words place (cond b h.maker.passed (slice_index m.words place)))
+      (sym (h.finds place at))
+
+  -- without a passed place no word changes
+  pub fork_is : passed_by m.layout m.reuse j ≡ None
+      → m' ≡ record m { receivers = slice_set m.receivers j (forked_at None h.maker) }
+  fork_is none = h.after ∙ ap forked_by none
+
+  -- it leaves the stage
+  pub fork_rises : stage_of m ≤ stage_of m'
+  fork_rises = by (passed_by m.layout m.reuse j) refl where
+    by : (o : Option ℕ) → passed_by m.layout m.reuse j ≡ o → stage_of m ≤ stage_of m'
+    by None none = let now = ap (λ (y : Machine E). stage_of y) (fork_is none) in omega arith
+    by (Some place) at =
+        let past = passed_past m.layout m.reuse j place at in
+        let now = ap (λ (y : Machine E). stage_of y) h.after
+        ∙ ap (λ ws. slice_index ws stage_at) (fork_stores place at)
+        ∙ get_or-set_other m.words place stage_at h.maker.passed 0 (λ same. omega arith) in
+        omega arith
 
 -- ---- what is reached
 module _ {E : Type 0} (X : Election E) where
@@ -468,10 +496,9 @@ module _ {E : Type 0} (X : Election E) where
     ap (λ (y : Machine E). y.reuse) h.after,
   )
 
-  pub forks_reuse : (w m : Machine E) (H : ℕ → List RecvTurn) (j : ℕ)
-      (next : Receiving) (before : List RecvTurn) → JoinsAs w H j next before m
+  pub forks_reuse : (w m : Machine E) (i j : ℕ) → Forks w i j true m
       → (m.layout ≡ w.layout) × (m.reuse ≡ w.reuse)
-  forks_reuse w m H j next before h = (
+  forks_reuse w m i j h = (
     ap (λ (y : Machine E). y.layout) h.after,
     ap (λ (y : Machine E). y.reuse) h.after,
   )
@@ -484,8 +511,8 @@ module _ {E : Type 0} (X : Election E) where
   flat_at_none m T (Next w v U f a before h) e =
       let i = event_reuse w v f a h in
       ap (λ (x : Layout). x.passers) i.0 ∙ flat_at_none w U before (sym i.1 ∙ e)
-  flat_at_none m T (Joins w v U j n next told before h nobody silent) e =
-      let same = forks_reuse w v U.heard j next told h in
+  flat_at_none m T (Joins w v U i j n before h nobody silent) e =
+      let same = forks_reuse w v i j h in
       ap (λ (x : Layout). x.passers) same.0 ∙ flat_at_none w U before (sym same.1 ∙ e)
 
   -- what a receiver does leaves its passed place where it is
@@ -551,10 +578,44 @@ module _ {E : Type 0} (X : Election E) where
   passes_by m T (Start w new) r v at = (new.receivers r v at).passed_is
   passes_by m T (Next w v U f a before h) r u at =
       event_passes w v f a h (passes_by w U before) r u at
-  passes_by m T (Joins w v U j n next told before h nobody silent) r u at =
-      one_passes w v j h.last next (forks_reuse w v U.heard j next told h) h.was
-      (h.own ∙ sym h.at ∙ sym (passes_by w U before j h.last h.was))
+  passes_by m T (Joins w v U i j n before h nobody silent) r u at =
+      one_passes w v j h.last (fork_in w j h.maker) (forks_reuse w v i j h) h.was
+      (sym (passes_by w U before j h.last h.was))
       (ap (λ (y : Machine E). y.receivers) h.after) (passes_by w U before) r u at
+
+  -- without passed places a fork is a copy
+  forked_plain : (w m : Machine E) (T : Trails) (i j n : ℕ) → Forks w i j true m
+      → w.layout.passers ≡ 0 → Passes w → slice_get w.receivers n ≡ None → T.heard n ≡ []
+      → IsPlain X w T → IsPlain X m (trails_joined i j n T)
+  forked_plain w m T i j n h flat passes nobody silent k = record {
+    bus = new;
+    is = is ∙ ap (λ x. of_bus w.bases x new) (sym same.0) ∙ ap (λ l. of_bus l m.layout new) bases;
+    reached =
+        subst (λ l. PlainReached X l m.layout new (plain_trails (trails_joined i j n T))) bases
+        (subst (λ x. PlainReached X w.bases x new (plain_trails (trails_joined i j n T)))
+        (sym same.0)
+        (Copied k.bus (plain_trails T) i j n h.maker h.last k.reached (sym (at i) ∙ h.there)
+        (sym (at j) ∙ h.was) (sym (at n) ∙ nobody) silent));
+  } where
+    same : (m.layout ≡ w.layout) × (m.reuse ≡ w.reuse)
+    same = forks_reuse w m i j h
+
+    bases : w.bases ≡ m.bases
+    bases = sym (ap (λ (y : Machine E). y.bases) h.after)
+
+    at : (q : ℕ) → slice_get w.receivers q ≡ slice_get k.bus.receivers q
+    at q = ap (λ (y : Machine E). slice_get y.receivers q) k.is
+
+    new : Bus E
+    new = record k.bus { receivers = slice_set k.bus.receivers j h.maker }
+
+    is : m ≡ of_bus w.bases w.layout new
+    is =
+        fork_is w m i j h (passed_first w.layout w.reuse j flat)
+        ∙ ap (λ v. record w { receivers = slice_set w.receivers j v })
+        (ap (λ o. forked_at o h.maker)
+        (sym (passes i h.maker h.there ∙ passed_first w.layout w.reuse i flat)))
+        ∙ ap (λ (y : Machine E). record y { receivers = slice_set y.receivers j h.maker }) k.is
 
   -- whatever leads to it, leads to the bus with a row for each tenure
   pub reached_at_none : (m : Machine E) (T : Trails) → Reached X m T → m.reuse ≡ None
@@ -566,9 +627,7 @@ module _ {E : Type 0} (X : Election E) where
       (λ r u at. passes_by w U before r u at ∙ passed_first w.layout w.reuse r
       (flat_at_none w U before was))
       (reached_at_none w U before was)
-  -- there is nowhere to fork to
-  reached_at_none m T (Joins w v U j n next told before h nobody silent) e =
-      let was = sym (forks_reuse w v U.heard j next told h).1 ∙ e in
-      absurd (let bad : None ≡ Some h.place =
-      sym (passed_first w.layout w.reuse j (flat_at_none w U before was)) ∙ h.at in
-      cc)
+  reached_at_none m T (Joins w v U i j n before h nobody silent) e =
+      let was = sym (forks_reuse w v i j h).1 ∙ e in
+      forked_plain w v U i j n h (flat_at_none w U before was) (passes_by w U before) nobody silent
+      (reached_at_none w U before was)

@@ -2,7 +2,7 @@
 -- to it leads to that.
 use Rattle.std.proofs.Common.{◌≡◌, ℕ, ◌+◌, ◌<◌, ◌≤◌, List, [], ◌∷◌, ◌++◌, Option, Some, None, Bool}
 use Rattle.std.proofs.Common.{true, false, cond, slice_get, slice_set, slice_index, nat_lt, refl}
-use Rattle.std.proofs.Common.{sym, ◌∙◌, ap, subst}
+use Rattle.std.proofs.Common.{sym, ◌∙◌, ap, subst, arith, ◌⊎◌, inl, inr}
 use mathlib.Core.Path.{fun_ext}
 use Rattle.std.specs.Prelude.{replicate, length}
 use Rattle.std.proofs.lemmas.List.{length-replicate}
@@ -17,6 +17,7 @@ use Rattle.bus_batch.specs.Batches.{next_of, CanPut, CanClose}
 use Rattle.bus_batch.specs.declared.batches.Phase.TheVariants.{Marking}
 use Rattle.bus_batch.specs.declared.messages.Mark.{Mark}
 use Rattle.bus_deliverylog.specs.Receiving.{Receiving, with_leave, receiving_op, leaving_op}
+use Rattle.bus_deliverylog.specs.Receiving.{joining_by, joining_op, forked_at}
 use Rattle.bus_core.proofs.Bridged.{at_some}
 use Rattle.bus_core.specs.Reusing.Passing.{passing_begun, passing_left}
 use Rattle.bus_core.specs.declared.reuses.Passing.{Passing}
@@ -32,6 +33,7 @@ use Rattle.bus_core.specs.Private.ParticipantTable.{due_beside, due_passed, due_
 use Rattle.bus_core.specs.Private.ParticipantTable.{passed_due, lacking, reclaim_due}
 use Rattle.bus_core.specs.Reusing.Turns.{Participant, sizes_of, queue_seen}
 use Rattle.bus_core.specs.Private.ParticipantTurns.{due, op_due, participant_due, answer_due}
+use Rattle.bus_presence.proofs.ReclamationKept.{lt_tells}
 use Rattle.bus_presence.specs.Reclamation.{presence_at}
 use Rattle.bus_presence.specs.Reclaimers.{Reclaiming}
 use Rattle.bus_presence.specs.Pins.{step_at}
@@ -63,23 +65,20 @@ use Rattle.bus_world.specs.Private.Machines.{new_core}
 use Rattle.bus_world.specs.Private.CyclicProtocols.{CyclicProtocol, Led, NewProtocol, PutIn}
 use Rattle.bus_world.specs.Floors.{passed_place, passed_of}
 use Rattle.bus_world.specs.Trails.{answers_joined}
-use Rattle.std.proofs.lemmas.Bool.{ltb-true}
-use Rattle.bus_world.specs.Private.CyclicProtocols.{MarkedIn, Heard, LeftFor, Forked}
-use Rattle.bus_world.specs.Private.CyclicProtocols.{word_found, fork_of}
+use Rattle.bus_world.specs.Private.CyclicProtocols.{MarkedIn, Heard, LeftFor, Forked, Copied}
+use Rattle.bus_world.specs.Private.CyclicProtocols.{word_found}
 use Rattle.bus_world.specs.Private.CyclicProtocols.{due_actions, trails_with, protocol_heard}
 use Rattle.bus_world.specs.Private.CyclicProtocols.{words_stepped}
 use Rattle.bus_world.specs.declared.events.Answer.{Answer}
 use Rattle.bus_world.specs.declared.events.Answer.TheVariants as answer
-use Rattle.bus_machine.proofs.Bases.AtNone.{close_taken}
+use Rattle.bus_machine.proofs.Bases.AtNone.{close_taken, passed_first}
 use Rattle.bus_machine.proofs.Bases.CyclicTurns.{protocol_kept, participant_moved, turn_led}
 use Rattle.bus_machine.proofs.Bases.CyclicTurns.{batch_led}
 use Rattle.bus_machine.proofs.Bases.CyclicTurns.{words_many}
 use Rattle.bus_machine.proofs.Bases.ProtocolParts.{list_put, away_puts, away_closes, stepped_words}
 use Rattle.bus_machine.proofs.Frames.Joining.{turn_log}
 use Rattle.bus_machine.specs.Private.Bridge.{core_in, passing_in, protocol_of, IsLed}
-use Rattle.bus_deliverylog.specs.declared.receiving.RecvTurn.{RecvTurn}
-use Rattle.bus_tenure.specs.declared.phases.Phase.TheVariants as phase
-use Rattle.bus_machine.specs.Machine.{JoinsAs}
+use Rattle.bus_machine.specs.Machine.{Forks, fork_in, trails_joined}
 use Rattle.bus_machine.specs.Machine.{base_of, Machine, Trails, Happens, TakesTurn, TakesPut}
 use Rattle.bus_machine.specs.Machine.{TakesMark, StopsNow, Hears, LeavesForGood, IsNew, IsOnWord}
 use Rattle.bus_machine.specs.Machine.{no_machine_trails, log_place, owners_told, has_stopped}
@@ -436,52 +435,59 @@ module _ {E : Type 0} (X : Election E) (P : Protocol E (Unit {0}) ℕ) (rows : �
       (LeftFor its_protocol T.pins T.actions T.heard T.log r h.receiver l.led h.there h.stays))
 
   -- a receiver joins
-  pub forks : (m' : Machine E) (j n : ℕ) (next : Receiving) (before : List RecvTurn)
-      → JoinsAs m T.heard j next before m' → slice_get m.receivers n ≡ None → T.heard n ≡ []
-      → IsLed X rows m' (record T { heard = answers_joined before j n T.heard })
-  forks m' j n next before h nobody silent = subst (λ y. IsLed X rows y T') (sym h.after)
-      (heard_led j h.last next (Some (Store record { 0 = h.place } next.passed)) T' h.was h.within
-      led)
+  pub forks : (m' : Machine E) (i j n : ℕ) → Forks m i j true m' → slice_get m.receivers n ≡ None
+      → T.heard n ≡ [] → IsLed X rows m' (trails_joined i j n T)
+  forks m' i j n h nobody silent = subst (λ y. IsLed X rows y (trails_joined i j n T)) (sym h.after)
+      (heard_led j h.last (fork_in m j h.maker) (joining_op (fork_in m j h.maker))
+      (trails_joined i j n T) h.was h.within
+      (subst By (ap (λ r. passed_by m.layout r j) (sym l.reuse)) led))
     where
-      T' : Trails
-      T' = record T { heard = answers_joined before j n T.heard }
+      -- with this passed place of its number
+      By : Option ℕ → Type 0
+      By o = Led X m.layout rows
+          (protocol_heard its_protocol j (joining_by o h.maker.passed) (forked_at o h.maker)) T.pins
+          T.actions (answers_joined (T.heard i) j n T.heard) T.log
 
-      -- by this step, of one that is this
-      Now : ℕ → Receiving → List RecvTurn → Type 0
-      Now place v told = Led X m.layout rows (record its_protocol {
+      place : ℕ
+      place = passed_place m.layout rows j
+
+      -- where its step stores or not
+      Now : Bool → Option ℕ → Type 0
+      Now b o = Led X m.layout rows (record its_protocol {
         reclamation = record its_protocol.reclamation {
-          words = put place v.passed its_protocol.reclamation.words;
+          words = put place (cond b h.maker.passed (slice_index m.words place))
+              its_protocol.reclamation.words;
         };
-        receivers = put j (Some v) its_protocol.receivers;
-      }) T.pins T.actions (answers_joined told j n T.heard) T.log
+        receivers = put j (Some (forked_at o h.maker)) its_protocol.receivers;
+      }) T.pins T.actions (answers_joined (T.heard i) j n T.heard) T.log
 
-      at_some : passed_of m.layout rows j ≡ Some h.place
-      at_some = subst (λ o. passed_by m.layout o j ≡ Some h.place) l.reuse h.at
+      many : (m.layout.passers ≡ 0) ⊎ (j < m.layout.passers)
+      many = ((protocol_kept X P rows m T q ok two l).kept.floors.each j h.last h.was).many
 
-      -- there is such a passed place
-      Place : Type 0
-      Place = (j < m.layout.passers) × (passed_place m.layout rows j ≡ h.place)
+      stored : j < m.layout.passers → By (passed_of m.layout rows j)
+      stored low = elim (lt_tells j m.layout.passers) [
+        | inl is ↦
+            let at : passed_of m.layout rows j ≡ Some place =
+            ap (λ b. cond {A = Option ℕ} b (Some place) None) is.0 in
+            subst By (sym at) (subst (λ b. Now b (Some place))
+            (h.finds place (ap (λ r. passed_by m.layout r j) l.reuse ∙ at))
+            (subst (Now true) at
+            (Forked its_protocol T.pins T.actions T.heard T.log i j n h.maker h.last l.led h.there
+            h.stays h.was (sym h.free) h.up low nobody silent)))
+        | inr past ↦ absurd (let over = past.1 in omega arith)
+      ]
 
-      there : Place
-      there = by (nat_lt j m.layout.passers) refl at_some where
-        by : (b : Bool) → nat_lt j m.layout.passers ≡ b
-            → cond {A = Option ℕ} b (Some (passed_place m.layout rows j)) None ≡ Some h.place
-            → Place
-        by false past is = absurd cc
-        by true low is = (ltb-true j m.layout.passers low, same_Some _ _ is)
+      copied : m.layout.passers ≡ 0 → By (passed_of m.layout rows j)
+      copied flat =
+          let none = passed_first m.layout (Some rows) j flat in
+          subst By (sym none) (subst (λ o. Led X m.layout rows (record its_protocol {
+            receivers = put j (Some (forked_at o h.maker)) its_protocol.receivers;
+          }) T.pins T.actions (answers_joined (T.heard i) j n T.heard) T.log) none
+          (Copied its_protocol T.pins T.actions T.heard T.log i j n h.maker h.last l.led flat
+          h.there h.stays h.was nobody silent))
 
-      forked : Now (passed_place m.layout rows j) next before
-      forked =
-          let is : fork_of m.layout rows j h.receiver ≡ next =
-          ap (λ o. record h.receiver { passed_at = o }) (at_some ∙ sym h.own) ∙ sym h.is in
-          subst (Now (passed_place m.layout rows j) next) (sym h.told)
-          (subst (λ v. Now (passed_place m.layout rows j) v (T.heard h.maker)) is
-          (Forked its_protocol T.pins T.actions T.heard T.log h.maker j n h.receiver h.last l.led
-          h.there h.stays h.was h.left h.up there.0 nobody silent))
-
-      led : Now h.place next before
-      led = subst (λ place. Now place next before) there.1
-          forked
+      led : By (passed_of m.layout rows j)
+      led = elim many [ inl flat ↦ copied flat | inr low ↦ stored low ]
 
   pub event_led : (m' : Machine E) (e : Event) (a : Answer) → Happens X m e a m'
       → IsLed X rows m' (trails_grown X m e a T)

@@ -1,10 +1,7 @@
 -- What leads to a machine of sizes that are served, as each of the two kinds of rows has it.
-use Rattle.std.proofs.Common.{◌≡◌, ℕ, ◌≤◌, Some, sym, ◌∙◌, subst}
+use Rattle.std.proofs.Common.{◌≡◌, ℕ, ◌≤◌, true, Some, sym, ◌∙◌, subst}
 use Rattle.bus_register.specs.Protocol.{Protocol}
 use Rattle.bus_tenure.specs.Core.{Election}
-use Rattle.std.proofs.Common.{List}
-use Rattle.bus_deliverylog.specs.Receiving.{Receiving}
-use Rattle.bus_deliverylog.specs.declared.receiving.RecvTurn.{RecvTurn}
 use Rattle.bus_world.proofs.Serving.{Serves}
 use Rattle.bus_world.specs.World.{IsLayout, Event}
 use Rattle.bus_world.specs.declared.events.Answer.{Answer}
@@ -12,7 +9,7 @@ use Rattle.bus_machine.proofs.Bases.AtNone.{event_reuse, forks_reuse}
 use Rattle.bus_machine.proofs.Bases.AtSome.{event_led, forks, new_led}
 use Rattle.bus_machine.specs.Private.Bridge.{IsLed}
 use Rattle.bus_machine.specs.Machine.{Machine, Trails, Reached, New as Start, Then as Next, Happens}
-use Rattle.bus_machine.specs.Machine.{Joins, JoinsAs}
+use Rattle.bus_machine.specs.Machine.{Joins, Forks}
 use Rattle.bus_machine.specs.Promise.{HasRows}
 
 module _ {E : Type 0} (X : Election E) (P : Protocol E (Unit {0}) ℕ) where
@@ -40,20 +37,18 @@ module _ {E : Type 0} (X : Election E) (P : Protocol E (Unit {0}) ℕ) where
         rows = subst HasRows (sym i.1) s.rows;
       }
 
-  pub sits_unforked : (w m : Machine E) (H : ℕ → List RecvTurn) (j : ℕ)
-      (next : Receiving) (before : List RecvTurn) → JoinsAs w H j next before m → Sits m → Sits w
-  sits_unforked w m H j next before h s =
-      let same = forks_reuse X w m H j next before h in
+  pub sits_unforked : (w m : Machine E) (i j : ℕ) → Forks w i j true m → Sits m → Sits w
+  sits_unforked w m i j h s =
+      let same = forks_reuse X w m i j h in
       record {
         serves = subst (Serves X P) same.0 s.serves;
         ok = subst IsLayout same.0 s.ok;
         rows = subst HasRows same.1 s.rows;
       }
 
-  pub sits_forked : (w m : Machine E) (H : ℕ → List RecvTurn) (j : ℕ)
-      (next : Receiving) (before : List RecvTurn) → JoinsAs w H j next before m → Sits w → Sits m
-  sits_forked w m H j next before h s =
-      let same = forks_reuse X w m H j next before h in
+  pub sits_forked : (w m : Machine E) (i j : ℕ) → Forks w i j true m → Sits w → Sits m
+  sits_forked w m i j h s =
+      let same = forks_reuse X w m i j h in
       record {
         serves = subst (Serves X P) (sym same.0) s.serves;
         ok = subst IsLayout (sym same.0) s.ok;
@@ -73,8 +68,8 @@ module _ {E : Type 0} (X : Election E) (P : Protocol E (Unit {0}) ℕ) where
       let was = sym (event_reuse X w v f a h).1 ∙ used in
       event_led X P rows w U t.serves t.ok (two_rows w t rows was) (led_some w U t before rows was)
       v f a h
-  led_some m T s (Joins w v U j n next told before h nobody silent) rows used =
-      let t = sits_unforked w v U.heard j next told h s in
-      let was = sym (forks_reuse X w v U.heard j next told h).1 ∙ used in
+  led_some m T s (Joins w v U i j n before h nobody silent) rows used =
+      let t = sits_unforked w v i j h s in
+      let was = sym (forks_reuse X w v i j h).1 ∙ used in
       forks X P rows w U t.serves t.ok (two_rows w t rows was) (led_some w U t before rows was)
-      v j n next told h nobody silent
+      v i j n h nobody silent

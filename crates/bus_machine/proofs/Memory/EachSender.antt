@@ -11,8 +11,6 @@ use Rattle.bus_core.specs.Senders.{Sender, Situation, Does, Scans, Clears, Reads
 use Rattle.bus_core.specs.Senders.{situation}
 use Rattle.bus_core.specs.Table.{Line, line_now}
 use Rattle.bus_presence.specs.Reclamation.{Entry, Trails as Entries}
-use Rattle.bus_deliverylog.specs.Receiving.{Receiving}
-use Rattle.bus_deliverylog.specs.declared.receiving.RecvTurn.{RecvTurn}
 use Rattle.bus_register.specs.Protocol.{Protocol}
 use Rattle.bus_register.specs.Private.TableLaws.{get_set_same, get_set_other}
 use Rattle.bus_register.specs.declared.registers.Op.{Op}
@@ -29,7 +27,7 @@ use Rattle.bus_machine.proofs.Bases.Leading.{Sits, sits_before, sits_unforked}
 use Rattle.bus_machine.specs.Machine.{Machine, Trails, Reached, New as Start, Then as Next, Happens}
 use Rattle.bus_machine.specs.Machine.{TakesTurn, IsNew, entered, turn_trails, turn_grown}
 use Rattle.bus_machine.specs.Machine.{trails_grown, turn_answer, found, has_stopped, moved, put_in}
-use Rattle.bus_machine.specs.Machine.{mark_in, Joins, JoinsAs}
+use Rattle.bus_machine.specs.Machine.{mark_in, Joins, Forks}
 
 -- ---- a test of two numbers
 pub cond_here : {A : Type 0} (q s : ℕ) (x y : A) → q ≡ s → cond (q == s) x y ≡ x
@@ -146,8 +144,7 @@ module _ {E : Type 0} (X : Election E) (P : Protocol E (Unit {0}) ℕ)
     (stays : (m m' : Machine E) (T : Trails) (e : Event) (a : Answer) → Sits X P m → Reached X m T
     → Happens X m e a m' → (q : ℕ) (o : Option (Sender E)) (D : List Action) (es : List Entry)
     → K m q o D es → K m' q o D es)
-    (joined : (m m' : Machine E) (T : Trails) (j : ℕ) (next : Receiving) (before : List RecvTurn)
-    → Reached X m T → JoinsAs m T.heard j next before m' → (q : ℕ) (o : Option (Sender E))
+    (joined : (m m' : Machine E) (i j : ℕ) → Forks m i j true m' → (q : ℕ) (o : Option (Sender E))
     (D : List Action) (es : List Entry) → K m q o D es → K m' q o D es)
     (puts : (m : Machine E) (q : ℕ) (v : Sender E) (D : List Action) (es : List Entry)
     (bytes : List ℕ) (a : Answer) → K m q (Some v) D es
@@ -212,9 +209,9 @@ module _ {E : Type 0} (X : Election E) (P : Protocol E (Unit {0}) ℕ)
       let old = each w U u before in
       event_keeps w v U e a u before h old (λ q. stays w v U e a u before h q
       (slice_get w.senders q) (U.actions q) (U.pins q) (old q))
-  each m T t (Joins w v U j n next told before h nobody silent) =
-      let old = each w U (sits_unforked X P w v U.heard j next told h t) before in
+  each m T t (Joins w v U i j n before h nobody silent) =
+      let old = each w U (sits_unforked X P w v i j h t) before in
       λ q. subst (λ l. K v q (slice_get l q) (U.actions q) (U.pins q))
       (sym (ap (λ (y : Machine E). y.senders) h.after))
-      (joined w v U j next told before h q (slice_get w.senders q) (U.actions q) (U.pins q)
+      (joined w v i j h q (slice_get w.senders q) (U.actions q) (U.pins q)
       (old q))

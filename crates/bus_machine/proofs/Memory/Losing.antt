@@ -272,7 +272,7 @@ module _ {E : Type 0} (X : Election E) (P : Protocol E (Unit {0}) ℕ) where
   losses m T sits (Next n m' B e a before h) =
       let t = sits_before X P n m' e a h sits in
       event_losses n m' B e a t before h (losses n B t before)
-  losses m T sits (Joins w v U j n next told before h nobody silent) =
-      let l = losses w U (sits_unforked X P w v U.heard j next told h sits) before in
+  losses m T sits (Joins w v U i j n before h nobody silent) =
+      let l = losses w U (sits_unforked X P w v i j h sits) before in
       λ q y o here lost. l q y o
       (ap (λ s. slice_get s q) (sym (ap (λ (z : Machine E). z.senders) h.after)) ∙ here) lost

@@ -46,8 +46,6 @@ use Rattle.bus_tenure.specs.declared.phases.Phase.TheVariants as phase
 use Rattle.bus_tenure.specs.declared.phases.Reason.{Reason}
 use Rattle.bus_tenure.specs.declared.phases.Reason.TheVariants.{Sent, FoundEnd, NoRoom}
 use Rattle.bus_world.specs.Private.Sending.{Part, Fits, standing_of, stands_at}
-use Rattle.bus_deliverylog.specs.Receiving.{Receiving}
-use Rattle.bus_deliverylog.specs.declared.receiving.RecvTurn.{RecvTurn}
 use Rattle.bus_world.specs.Headline.{IsPrefix}
 use Rattle.bus_world.specs.Headline.{Action, HasPut, HasMarked, Stepped, Asked, Elected, puts}
 use Rattle.bus_world.specs.Log.{next_number, sent_count}
@@ -58,7 +56,6 @@ use Rattle.bus_world.specs.Private.Tenures.Stage.{Open, Held}
 use Rattle.bus_world.specs.Private.Tenures.Standing.{Holds}
 use Rattle.bus_world.proofs.Places.{got_split}
 use Rattle.bus_world.proofs.Stopping.{shown_there}
-use Rattle.bus_world.specs.Trails.{answers_joined}
 use Rattle.bus_world.specs.Trails.{step_action, put_actions, mark_actions, actions_with}
 use Rattle.bus_world.specs.Turning.{after_step, core_with_page, words_after}
 use Rattle.bus_tenure.specs.declared.turns.Turn.{Turn as Answered}
@@ -79,7 +76,7 @@ use Rattle.bus_machine.proofs.Tenures.PinBounds.{PinFits, kept_of}
 use Rattle.bus_machine.proofs.Onward.StageRises.{rises}
 use Rattle.bus_machine.proofs.Frames.Staying.{grown_longer}
 use Rattle.bus_machine.specs.Machine.{base_of, Machine, Trails, Reached, New as Start}
-use Rattle.bus_machine.specs.Machine.{Joins, JoinsAs}
+use Rattle.bus_machine.specs.Machine.{Joins, Forks, trails_joined}
 use Rattle.bus_machine.specs.Machine.{Then as Next, Happens, TakesTurn, IsNew, IsOnWord}
 use Rattle.bus_machine.specs.Machine.{trails_grown, turn_grown, turn_answer, found, has_stopped}
 use Rattle.bus_machine.specs.Machine.{moved, put_in, mark_in, no_machine_trails, stage_of}
@@ -412,15 +409,14 @@ module _ {E : Type 0} (X : Election E) (P : Protocol E (Unit {0}) ℕ) (m m' : M
 
 -- a fork: no sender is another
 module _ {E : Type 0} (X : Election E) (P : Protocol E (Unit {0}) ℕ) (m m' : Machine E) (T : Trails)
-    (j n : ℕ) (next : Receiving) (before : List RecvTurn) (sits : Sits X P m) (r : Reached X m T)
-    (h : JoinsAs m T.heard j next before m')
+    (i j n : ℕ) (sits : Sits X P m) (r : Reached X m T) (h : Forks m i j true m')
     (nobody : slice_get m.receivers n ≡ None) (silent : T.heard n ≡ []) (k : AllRecall m T) where
   abbrev U' : Trails
-  U' = record T { heard = answers_joined before j n T.heard }
+  U' = trails_joined i j n T
 
   g' : IsFramed P m' U'
-  g' = framed X P m' U' (sits_forked X P m m' T.heard j next before h sits)
-      (Joins m m' T j n next before r h nobody silent)
+  g' = framed X P m' U' (sits_forked X P m m' i j h sits)
+      (Joins m m' T i j n r h nobody silent)
 
   same_log : IsPrefix T.log U'.log
   same_log = record { rest = []; together = append-nil T.log }
@@ -428,10 +424,10 @@ module _ {E : Type 0} (X : Election E) (P : Protocol E (Unit {0}) ℕ) (m m' : M
   closed_too : (s : ℕ) → HasEnded m T.log ⊎ HasLeftIt m T.log s
       → HasEnded m' U'.log ⊎ HasLeftIt m' U'.log s
   closed_too s (inl ended) = inl
-      (still_ended P m m' T U' (forks_reuse X m m' T.heard j next before h).0 g' same_log
+      (still_ended P m m' T U' (forks_reuse X m m' i j h).0 g' same_log
       ended)
   closed_too s (inr left) = inr
-      (still_left P m m' T U' s (forks_reuse X m m' T.heard j next before h).0 g' same_log
+      (still_left P m m' T U' s (forks_reuse X m m' i j h).0 g' same_log
       left)
 
   fork_recalls : AllRecall m' U'
@@ -441,7 +437,7 @@ module _ {E : Type 0} (X : Election E) (P : Protocol E (Unit {0}) ℕ) (m m' : M
         closed = λ shut. closed_too q (old.closed shut);
         asked = old.asked;
         past = λ t low. past_more (stage_of m) (stage_of m') q (T.actions q) (T.actions q) t
-            (fork_rises X m m' T.heard j next before h)
+            (fork_rises m m' i j h)
             (record { rest = []; together = append-nil (T.actions q) }) (old.past t low);
       }
 
@@ -771,9 +767,9 @@ module _ {E : Type 0} (X : Election E) (P : Protocol E (Unit {0}) ℕ) where
   all_recall m T sits (Next n m' U e a before h) =
       let t = sits_before X P n m' e a h sits in
       event_recalls n m' U e a t before h (all_recall n U t before)
-  all_recall m T sits (Joins w v U j n next told before h nobody silent) =
-      let t = sits_unforked X P w v U.heard j next told h sits in
-      fork_recalls X P w v U j n next told t before h nobody silent (all_recall w U t before)
+  all_recall m T sits (Joins w v U i j n before h nobody silent) =
+      let t = sits_unforked X P w v i j h sits in
+      fork_recalls X P w v U i j n t before h nobody silent (all_recall w U t before)
 
   pub remembered : (m : Machine E) (T : Trails) → Sits X P m → Reached X m T
       → (s : ℕ) (v : Sender E) → slice_get m.senders s ≡ Some v

@@ -391,7 +391,7 @@ module _ {E : Type 0} (X : Election E) (P : Protocol E (Unit {0}) ℕ) where
 
   all_load : (m : Machine E) (T : Trails) → Sits X P m → Reached X m T → OfEach K m m.senders T
   all_load = each X P K starts (λ m m' T e a t r h q o D es k. k)
-      (λ m m' T j next told r h q o D es k. k)
+      (λ m m' i j h q o D es k. k)
       (λ m q v D es bytes a k t page stored published p held has.
       subst (HasLoaded v.core.layout.passers page p) (sym (puts D bytes a))
       (k t page stored published p held has))

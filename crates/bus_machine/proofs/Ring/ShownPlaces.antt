@@ -321,8 +321,7 @@ module _ {E : Type 0} (X : Election E) (P : Protocol E (Unit {0}) ℕ) where
   shown : (m : Machine E) (T : Trails) → Sits X P m → Reached X m T → OfEach K m m.senders T
   shown = each X P K starts
       (λ m m' T e a t r h q o D es k. stays m m' (λ b on. After m m' e a on h) q o D k)
-      (λ m m' T j next told r h q o D es k.
-      stays m m' (λ b on. AfterJoin m m' T j next told on r h) q o D k)
+      (λ m m' i j h q o D es k. stays m m' (λ b on. AfterJoin m m' i j on h) q o D k)
       (λ m q v D es bytes a k. joined m q v D (put_actions bytes a) (puts X P D bytes a) k)
       (λ m q v D es mark a k. joined m q v D (mark_actions a) (marks X P D a) k)
       (λ m m' T s word a t r h at k.

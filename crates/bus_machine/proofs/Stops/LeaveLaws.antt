@@ -16,7 +16,7 @@ use Rattle.bus_core.specs.Senders.{Withdraws, Scans, Clears, ReadsPassed, situat
 use Rattle.bus_core.specs.Table.{Line, line_now}
 use Rattle.bus_core.specs.declared.limits.TheConstants.{PASSED_APART}
 use Rattle.bus_deliverylog.specs.Receiving.{Receiving, with_leave, leaving_by, leaving_op}
-use Rattle.bus_deliverylog.specs.Receiving.{receiving_op}
+use Rattle.bus_deliverylog.specs.Receiving.{receiving_op, joining_op}
 use Rattle.bus_adoptcommit.specs.declared.verdicts.Verdict.{Verdict}
 use Rattle.bus_tenure.specs.Core.{Election, Layout}
 use Rattle.bus_tenure.specs.Elections.{Elector}
@@ -35,8 +35,7 @@ use Rattle.bus_world.specs.declared.events.StepFault.TheVariants as fault
 use Rattle.bus_machine.specs.Machine.{Machine, Trails, Happens, IsOnWord, LeavesForGood}
 use Rattle.bus_machine.specs.Machine.{trails_grown, turn_grown, turn_trails, going, found}
 use Rattle.bus_machine.specs.Machine.{heard_grown, log_place, passed_by, passers_place, Reached}
-use Rattle.bus_machine.specs.Machine.{New, Then, Joins}
-use Rattle.bus_register.specs.declared.registers.Op.TheVariants.{Store}
+use Rattle.bus_machine.specs.Machine.{New, Then, Joins, fork_in}
 use Rattle.bus_machine.specs.Playing.{AllAnswered, trails_after}
 use Rattle.bus_machine.specs.Leaves.{is_gone, has_left, JustLeft, StaysGone}
 use Rattle.bus_machine.specs.Leaves.{LeavesAreForGood, LeaveRefuses}
@@ -237,10 +236,10 @@ module _ {E : Type 0} (X : Election E) where
       event_words w v e a h ∙ many_words w U before
       ∙ ap (λ (x : Layout). log_place x w.reuse + x.capacity) (sym i.0)
       ∙ ap (λ o. log_place v.layout o + v.layout.capacity) (sym i.1)
-  many_words m T (Joins w v U j n next told before h nobody silent) =
-      let same = forks_reuse X w v U.heard j next told h in
+  many_words m T (Joins w v U i j n before h nobody silent) =
+      let same = forks_reuse X w v i j h in
       ap (λ (y : Machine E). length y.words) h.after
-      ∙ words_many w.words (Some (Store record { 0 = h.place } next.passed))
+      ∙ words_many w.words (joining_op (fork_in w j h.maker))
       ∙ many_words w U before ∙ ap (λ (x : Layout). log_place x w.reuse + x.capacity) (sym same.0)
       ∙ ap (λ o. log_place v.layout o + v.layout.capacity) (sym same.1)
 

@@ -55,7 +55,7 @@ module _ {E : Type 0} (X : Election E) where
   reached_stops : (m : Machine E) (T : Trails) → Reached X m T → length m.stopped ≡ MOST_SENDERS
   reached_stops m T (Start w new) = ap length new.stopped ∙ length-replicate MOST_SENDERS false
   reached_stops m T (Next w v U e a before h) = stops_after w v e a h ∙ reached_stops w U before
-  reached_stops m T (Joins w v U j n next told before h nobody silent) =
+  reached_stops m T (Joins w v U i j n before h nobody silent) =
       ap (λ (y : Machine E). length y.stopped) h.after ∙ reached_stops w U before
 
   -- the senders are as many, and the sizes the same
@@ -95,7 +95,7 @@ module _ {E : Type 0} (X : Election E) where
   ]
   reached_below m T (Next w v U e a before h) p l = let i = many_after w v e a h in
       subst (λ x. p < x.senders) (sym i.1) (reached_below w U before p (subst (λ n. p < n) i.0 l))
-  reached_below m T (Joins w v U j n next told before h nobody silent) p l =
+  reached_below m T (Joins w v U i j n before h nobody silent) p l =
       subst (λ x. p < x.senders) (sym (ap (λ (y : Machine E). y.layout) h.after))
       (reached_below w U before p
       (subst (λ k. p < k) (ap (λ (y : Machine E). length y.senders) h.after) l))

@@ -329,8 +329,7 @@ module _ {E : Type 0} (X : Election E) (P : Protocol E (Unit {0}) ℕ) where
   counted : (m : Machine E) (T : Trails) → Sits X P m → Reached X m T → OfEach K m m.senders T
   counted = each X P K starts
       (λ m m' T e a t r h q o D es k. subst (λ x. At x o D) (sym (event_reuse X m m' e a h).0) k)
-      (λ m m' T j next told r h q o D es k.
-      subst (λ x. At x o D) (sym (forks_reuse X m m' T.heard j next told h).0) k)
+      (λ m m' i j h q o D es k. subst (λ x. At x o D) (sym (forks_reuse X m m' i j h).0) k)
       (λ m q v D es bytes a k. falls_within P.left (P.steps m.layout.senders + 1) v (put_in v bytes)
       D (put_actions bytes a)
       (record { less = λ s. let none = put_adds s bytes a in omega arith }) k)

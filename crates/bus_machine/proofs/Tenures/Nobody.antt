@@ -11,6 +11,7 @@ use Rattle.bus_world.specs.declared.events.Answer.{Answer}
 use Rattle.bus_machine.proofs.Memory.EachSender.{cond_beside}
 use Rattle.bus_machine.proofs.Stops.LeaveLaws.{sender_heard}
 use Rattle.bus_machine.specs.Machine.{Machine, Trails, Reached, New, Then, Joins, Happens}
+use Rattle.bus_machine.specs.Machine.{fork_in}
 use Rattle.bus_machine.specs.Machine.{trails_grown, heard_grown, going}
 
 pub record HasNobody {E : Type 0} (m : Machine E) (T : Trails) : Type 0 where
@@ -54,17 +55,17 @@ module _ {E : Type 0} (X : Election E) where
         silent = λ n l.
             adds_nothing w v U e a h n (let low = k.many in omega arith) ∙ k.silent n l;
       }
-  has_nobody m T (Joins w v U j n next told before h nobody silent) =
+  has_nobody m T (Joins w v U i j n before h nobody silent) =
       let k = has_nobody w U before in
       let same = ap (λ (y : Machine E). length y.receivers) h.after
-      ∙ length-set w.receivers j next in
+      ∙ length-set w.receivers j (fork_in w j h.maker) in
       record {
         from = k.from + n + 1;
         many = (let low = k.many in omega arith);
         silent = λ q l.
             let room = slice_get_within w.receivers j h.last h.was in
             let low = k.many in
-            cond_beside q j told (cond (q == n) (U.heard j) (U.heard q))
+            cond_beside q j (U.heard i) (cond (q == n) (U.heard j) (U.heard q))
             (λ e. omega arith)
             ∙ cond_beside q n (U.heard j) (U.heard q) (λ e. omega arith)
             ∙ k.silent q (omega arith);

@@ -402,12 +402,12 @@ module _ {E : Type 0} (X : Election E) (P : Protocol E (Unit {0}) ℕ) where
   takers_told m T sits (Next n m' U e a before h) =
       let t = sits_before X P n m' e a h sits in
       event_told n m' U e a t before h (takers_told n U t before)
-  takers_told m T sits (Joins w v U j n next told before h nobody silent) =
-      let k = takers_told w U (sits_unforked X P w v U.heard j next told h sits) before in
+  takers_told m T sits (Joins w v U i j n before h nobody silent) =
+      let k = takers_told w U (sits_unforked X P w v i j h sits) before in
       record {
         all = k.all;
         takers = k.takers;
         told =
             ap (λ (y : Machine E). y.owners) h.after ∙ k.told
-            ∙ ap (λ o. owners_told o k.all) (sym (forks_reuse X w v U.heard j next told h).1);
+            ∙ ap (λ o. owners_told o k.all) (sym (forks_reuse X w v i j h).1);
       }

@@ -496,8 +496,8 @@ module _ {E : Type 0} (X : Election E) (P : Protocol E (Unit {0}) ℕ) where
   pins_kept = each X P K starts
       (λ m m' T e a t r h q o D es k. keeps_later (stage_of m) (stage_of m') o es
       (rises X P m m' T e a t r h) k)
-      (λ m m' T j next told r h q o D es k.
-      keeps_later (stage_of m) (stage_of m') o es (fork_rises X m m' T.heard j next told h) k)
+      (λ m m' i j h q o D es k.
+      keeps_later (stage_of m) (stage_of m') o es (fork_rises m m' i j h) k)
       (λ m q v D es bytes a k. k) (λ m q v D es mark a k. k)
       (λ m m' T s word a t r h at k.
       let v = h.sender in

@@ -22,7 +22,6 @@ use Rattle.bus_tenure.specs.Core.{Core, Election, Layout}
 use Rattle.bus_tenure.specs.Situations.{Situation, line_of, op_at, kind_at}
 use Rattle.bus_tenure.specs.Private.LineParts.{tenure_at, chosen_at}
 use Rattle.bus_tenure.specs.declared.pages.Page.{Page}
-use Rattle.bus_tenure.specs.declared.phases.Phase.TheVariants as phase
 use Rattle.bus_tenure.specs.declared.turns.Turn.{Turn as Answered}
 use Rattle.bus_tenure.specs.declared.turns.Turn.TheVariants as turn
 use Rattle.bus_core.specs.Private.Bridge.{publishes_of}
@@ -212,7 +211,7 @@ due_in X x rows y p c =
 -- one that pins no tenure puts a message, closes or leaves; or a receiver takes a turn, or leaves
 -- for good, each with the step that it takes if any, and takes none after it has left. Or a
 -- receiver joins, with a number whose receiver has left: one that has not left forks, and gives its
--- place to a higher number.
+-- place to a higher number. Where there are no passed places that takes no step.
 pub data Led {E : Type 0} (X : Election E) (x : Layout) (rows : ℕ) : CyclicProtocol E → Trails
     → (ℕ → List Action) → (ℕ → List RecvTurn) → List ℕ → Type 0 where
   NewProtocol : (y : CyclicProtocol E) → IsNewProtocol x rows y
@@ -248,4 +247,10 @@ pub data Led {E : Type 0} (X : Election E) (x : Layout) (rows : ℕ) : CyclicPro
       → y.receivers i ≡ Some v → v.gone ≡ false → y.receivers j ≡ Some w → w.gone ≡ true
       → i < j → j < x.passers → y.receivers n ≡ None → H n ≡ []
       → Led X x rows (protocol_joined x rows y j (fork_of x rows j v)) T D
+      (answers_joined (H i) j n H) L
+  Copied : (y : CyclicProtocol E) (T : Trails) (D : ℕ → List Action) (H : ℕ → List RecvTurn)
+      (L : List ℕ) (i j n : ℕ) (v w : Receiving) → Led X x rows y T D H L → x.passers ≡ 0
+      → y.receivers i ≡ Some v → v.gone ≡ false → y.receivers j ≡ Some w
+      → y.receivers n ≡ None → H n ≡ []
+      → Led X x rows (record y { receivers = put j (Some (fork_of x rows j v)) y.receivers }) T D
       (answers_joined (H i) j n H) L

@@ -1,9 +1,10 @@
 -- How events extend the trails, which trails lead to a bus with a row for each tenure, and what is
 -- promised of it then.
 use Rattle.std.specs.Prelude.{◌≡◌, ℕ, Option, Some, None, List, [], ◌∷◌, ◌++◌, slice_index}
-use Rattle.std.specs.Prelude.{if◌then◌else◌, ◌==◌}
+use Rattle.std.specs.Prelude.{if◌then◌else◌, ◌==◌, slice_get, slice_set}
 use Rattle.bus_register.specs.declared.registers.SenderNo.{SenderNo}
 use Rattle.bus_batch.specs.Frames.{Order, Spells}
+use Rattle.bus_deliverylog.specs.Receiving.{Receiving}
 use Rattle.bus_deliverylog.specs.declared.receiving.RecvTurn.{RecvTurn}
 use Rattle.bus_tenure.specs.Core.{Core, Election, Layout, log_at}
 use Rattle.bus_tenure.specs.Situations.{Situation, situation_of, line_of, kind_at, op_at}
@@ -17,6 +18,7 @@ use Rattle.bus_world.specs.Private.Answers.{Answers}
 use Rattle.bus_world.specs.declared.events.Answer.{Answer}
 use Rattle.bus_world.specs.declared.events.Answer.TheVariants as answer
 use Rattle.bus_world.specs.Trails.{step_action, put_actions, mark_actions, Takers}
+use Rattle.bus_world.specs.Trails.{answers_joined}
 
 -- what a turn of a sender in this situation adds to its trail, where its step found this number and
 -- this is its answer
@@ -98,13 +100,19 @@ trails_grown X b e a T = record {
   log = event_log X b e T.log;
 }
 
--- these trails lead to this bus: from a new one, of which nothing has happened, by one event after
--- another
+-- These trails lead to this bus: from a new one, of which nothing has happened, by one event after
+-- another, and by receivers that join: one is copied to another number, and counts as given to it
+-- what was given to its maker. That takes no step.
 pub data Reached {E : Type 0} (X : Election E) (bases : List ℕ) (x : Layout) : Bus E → Trails
     → Type 0 where
   New : (b : Bus E) → IsNew bases x b → Reached X bases x b no_trails
   Then : (b b' : Bus E) (T : Trails) (e : Event) (a : Answer) → Reached X bases x b T → IsEvent e
       → Happens X b e b' → Answers X b e a b' → Reached X bases x b' (trails_grown X b e a T)
+  Copied : (b : Bus E) (T : Trails) (i j n : ℕ) (v w : Receiving) → Reached X bases x b T
+      → slice_get b.receivers i ≡ Some v → slice_get b.receivers j ≡ Some w
+      → slice_get b.receivers n ≡ None → T.heard n ≡ []
+      → Reached X bases x (record b { receivers = slice_set b.receivers j v })
+      (record T { heard = answers_joined (T.heard i) j n T.heard })
 
 -- ---- what is promised of a bus
 -- the promise holds of these trails, with the order and the owners that all that was published

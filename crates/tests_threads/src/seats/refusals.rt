@@ -17,7 +17,7 @@ fn many<R: Abort + AllocGlobal>(
         (FirstLine::Shape(shape), None) => Bus::<ThreeWord>::new(alloc, shape),
         (FirstLine::Shape(shape), Some(page)) => Bus::<ThreeWord>::after(alloc, shape, page),
         (FirstLine::Cycle(shape), page) => Bus::<ThreeWord>::cyclic(alloc, shape, page),
-        (FirstLine::Ring(_), _) => panic!(rt; "no row of these is of a ring"),
+        (FirstLine::Ring { .. }, _) => panic!(rt; "no row of these is of a ring"),
     };
     let (_, senders, taps) = made?;
     Ok((senders.len(), taps.len()))

@@ -8,7 +8,7 @@ use Rattle.bus_replay.proofs.ClosingLaws.{closes_alike}
 use Rattle.bus_replay.proofs.laws.closing_lines_are_of_the_bus.Goals as goal
 
 pub returns : goal.returns
-returns g c senders rounds rows capacity ok bus trails other text same has closes reached =
+returns g c senders rounds rows capacity ok bus trails other taken text same has closes reached =
     let P = g.Q.Ratifier.protocol in
     let X = election_with g.Q.Machine.kind_of g.Q.Machine.op g.Q.Machine.fed P in
     let R = elections P rounds in
@@ -21,4 +21,4 @@ returns g c senders rounds rows capacity ok bus trails other text same has close
       rows = has;
     } in
     closes_alike X P R bus trails other t closes.happened reached
-    (ap (λ (x : Layout). x.passers) same) text closes
+    (ap (λ (x : Layout). x.passers) same) taken text closes

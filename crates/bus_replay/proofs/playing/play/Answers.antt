@@ -13,7 +13,11 @@ loop-line-init g c =
 pub obey-requires : goal.obey-requires
 obey-requires g c =
     let so_far = c.loop-line.invariant in
-    (so_far.grown c.requires.0, so_far.holds c.requires.0 c.requires.1)
+    let held = c.requires in (
+      so_far.grown held.0,
+      so_far.seated held.1,
+      (so_far.holds held.0 held.1 held.2 held.3).0,
+    )
 
 pub loop-line-preserved : goal.loop-line-preserved
 loop-line-preserved g c =

@@ -1,4 +1,4 @@
-use Rattle.std.proofs.Common.{◌-◌, sym, ◌∙◌, inl, inr, arith}
+use Rattle.std.proofs.Common.{ℕ, Bool, ◌-◌, sym, ◌∙◌, inl, inr, arith}
 use Rattle.bus_tenure.specs.Elections.{election_with}
 use Rattle.bus_world.specs.Playing.{event_told}
 use Rattle.bus_machine.specs.Machine.{Trails, trails_grown}
@@ -21,8 +21,8 @@ loop-more-init g c =
     once X P e old c.args.history.now (c.args.times - 1) c.in-Ok.answer new.bus new.history
     (when_ok (λ a. Answers X P old e a new.bus) c.in_ok-answer.field-0 c.in-Ok.answer c.in-Ok.is
     c.in_ok-answer.ensures.answered)
-    (when_ok (λ a. (T : Trails) → IsHistoryOf X P old c.args.history.now T
-    → IsHistoryOf X P new.bus new.history (trails_grown X old e a T)) c.in_ok-answer.field-0
+    (when_ok (λ a. (T : Trails) (taken : ℕ → Bool) → IsHistoryOf X P old c.args.history.now T taken
+    → IsHistoryOf X P new.bus new.history (trails_grown X old e a T) taken) c.in_ok-answer.field-0
     c.in-Ok.answer c.in-Ok.is c.in_ok-answer.ensures.noted)
 
 pub step_noted-requires-in-loop-more : goal.step_noted-requires-in-loop-more
@@ -33,7 +33,8 @@ step_noted-requires-in-loop-more g c =
     let held = c.requires.held in (
       trails_grown X so_far.before (event_told c.args.event.now) c.loop-more.last
           (so_far.grown held.0),
-      so_far.holds held.0 held.1,
+      held.1,
+      so_far.holds held.0 held.1 held.2,
     )
 
 pub returns-in-Err-2-clause-fault : goal.returns-in-Err-2-clause-fault
@@ -61,8 +62,9 @@ loop-more-preserved g c =
     (omega arith) (sym c.goes_on.ensures ∙ c.if-goes_on.true)
     (when_ok (λ a. Answers X P mid e a new.bus) c.in_ok-answer-2.field-0 c.in-Ok-2.answer
     c.in-Ok-2.is c.in_ok-answer-2.ensures.answered)
-    (when_ok (λ a. (T : Trails) → IsHistoryOf X P mid kept T
-    → IsHistoryOf X P new.bus new.history (trails_grown X mid e a T)) c.in_ok-answer-2.field-0
+    (when_ok (λ a. (T : Trails) (taken : ℕ → Bool) → IsHistoryOf X P mid kept T taken
+    → IsHistoryOf X P new.bus new.history (trails_grown X mid e a T) taken)
+    c.in_ok-answer-2.field-0
     c.in-Ok-2.answer c.in-Ok-2.is c.in_ok-answer-2.ensures.noted)
 
 pub returns-clause-last : goal.returns-clause-last

@@ -20,10 +20,10 @@ note-requires g c =
     let d = c.in-Ok.ensures.answered.happens in
     let held = c.requires in
     record {
-      some = capacity_some X P old new law h held.0 e a d held.1;
+      some = capacity_some X P old new law h held.0 held.1 e a d held.2;
       within = subst (λ l. h.capacity < length l) (sym c.words.ensures)
-          (log_within X P old new law h held.0 e a d held.1);
-      there = receiver_there X P old new law h held.0 e a d held.1;
+          (log_within X P old new law h held.0 held.1 e a d held.2);
+      there = receiver_there X P old new law h held.0 held.1 e a d held.2;
     }
 
 pub returns-clause-noted : goal.returns-clause-noted
@@ -31,11 +31,11 @@ returns-clause-noted g c =
     let X =
     election_with g.Q.Machine.kind_of g.Q.Machine.op g.Q.Machine.fed g.Q.Ratifier.protocol in
     let e = event_told c.args.event.now in
-    λ trails held.
+    λ trails taken held.
     subst (λ h. IsHistoryOf X g.Q.Ratifier.protocol c.step.new.self h
-    (trails_grown X c.args.bus.now e c.in-Ok.answer trails))
+    (trails_grown X c.args.bus.now e c.in-Ok.answer trails) taken)
     (sym (c.in_ok-note.ensures
     ∙ ap (λ l. kept_after l e c.in-Ok.answer c.args.history.now) c.words.ensures))
     (holds_on X g.Q.Ratifier.protocol c.args.bus.now c.step.new.self
-    c.published_words_stand.ensures c.args.history.now trails e c.in-Ok.answer
+    c.published_words_stand.ensures c.args.history.now trails taken e c.in-Ok.answer
     c.in-Ok.ensures.answered.happens held)

@@ -1,4 +1,4 @@
-use Rattle.std.proofs.Common.{◌<◌, ◌≤◌, get_or, length, slice_index, subst, sym, take}
+use Rattle.std.proofs.Common.{◌<◌, ◌≤◌, get_or, length, slice_index, subst, sym}
 use Rattle.bus_replica.specs.Pages.{next_before, next_behind}
 use Rattle.bus_replica.proofs.PageLaws.{behind_all, get_front, told_behind}
 use Rattle.bus_replica.proofs.recorded_laws.told_numbers_are_behind.Goals as goal

@@ -1,5 +1,5 @@
-use Rattle.std.proofs.Common.{◌++◌, ap}
-use Rattle.bus_batch.specs.Frames.{Order, items_in, order_of}
+use Rattle.std.proofs.Common.{◌++◌}
+use Rattle.bus_batch.specs.Frames.{items_in, order_of}
 use Rattle.bus_replica.proofs.RecordedLaws.{one_executed, one_read, recorded_executed}
 use Rattle.bus_replica.proofs.RecordedLaws.{recorded_items, recorded_read}
 use Rattle.bus_replica.proofs.recorded_laws.what_was_recorded_stands_before.Goals as goal

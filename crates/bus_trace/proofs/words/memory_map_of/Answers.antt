@@ -8,11 +8,12 @@ overflow_mul-passed g c =
     let q = c.match-first.presences in
     let few : AreFew q.0 q.1 q.2 = elim c.match-first.branch [
       | in-Shape w ↦ subst (λ z. AreFew z.0 z.1 z.2) (sym w.presences-is)
-          (few_apart c.args.first w.in-Shape.shape w.in-Shape.is c.requires)
+          (few_apart c.args.first w.in-Shape.shape w.in-Shape.is c.requires.served)
       | in-Cycle w ↦ subst (λ z. AreFew z.0 z.1 z.2) (sym w.presences-is)
-          (few_again c.args.first w.in-Cycle.shape w.in-Cycle.is c.requires)
+          (few_again c.args.first w.in-Cycle.shape w.in-Cycle.is c.requires.served)
       | in-Ring w ↦ subst (λ z. AreFew z.0 z.1 z.2) (sym w.presences-is)
-          (few_in_ring c.args.first w.in-Ring.shape w.in-Ring.is c.requires)
+          (few_in_ring c.args.first w.in-Ring.shape w.in-Ring.seats w.in-Ring.is
+          c.requires.served c.requires.seats)
     ] in
     let all = rows_fit q.0 q.1 q.2 (g.Q.Ratifier.protocol.width q.0.senders) c.width-row.result few
     (g.met.Q.Ratifier.narrow q.0.senders
@@ -24,11 +25,12 @@ overflow_add-passed-2 g c =
     let q = c.match-first.presences in
     let few : AreFew q.0 q.1 q.2 = elim c.match-first.branch [
       | in-Shape w ↦ subst (λ z. AreFew z.0 z.1 z.2) (sym w.presences-is)
-          (few_apart c.args.first w.in-Shape.shape w.in-Shape.is c.requires)
+          (few_apart c.args.first w.in-Shape.shape w.in-Shape.is c.requires.served)
       | in-Cycle w ↦ subst (λ z. AreFew z.0 z.1 z.2) (sym w.presences-is)
-          (few_again c.args.first w.in-Cycle.shape w.in-Cycle.is c.requires)
+          (few_again c.args.first w.in-Cycle.shape w.in-Cycle.is c.requires.served)
       | in-Ring w ↦ subst (λ z. AreFew z.0 z.1 z.2) (sym w.presences-is)
-          (few_in_ring c.args.first w.in-Ring.shape w.in-Ring.is c.requires)
+          (few_in_ring c.args.first w.in-Ring.shape w.in-Ring.seats w.in-Ring.is
+          c.requires.served c.requires.seats)
     ] in
     let all = rows_fit q.0 q.1 q.2 (g.Q.Ratifier.protocol.width q.0.senders) c.width-row.result few
     (g.met.Q.Ratifier.narrow q.0.senders
@@ -41,11 +43,12 @@ overflow_add-result g c =
     let q = c.match-first.presences in
     let few : AreFew q.0 q.1 q.2 = elim c.match-first.branch [
       | in-Shape w ↦ subst (λ z. AreFew z.0 z.1 z.2) (sym w.presences-is)
-          (few_apart c.args.first w.in-Shape.shape w.in-Shape.is c.requires)
+          (few_apart c.args.first w.in-Shape.shape w.in-Shape.is c.requires.served)
       | in-Cycle w ↦ subst (λ z. AreFew z.0 z.1 z.2) (sym w.presences-is)
-          (few_again c.args.first w.in-Cycle.shape w.in-Cycle.is c.requires)
+          (few_again c.args.first w.in-Cycle.shape w.in-Cycle.is c.requires.served)
       | in-Ring w ↦ subst (λ z. AreFew z.0 z.1 z.2) (sym w.presences-is)
-          (few_in_ring c.args.first w.in-Ring.shape w.in-Ring.is c.requires)
+          (few_in_ring c.args.first w.in-Ring.shape w.in-Ring.seats w.in-Ring.is
+          c.requires.served c.requires.seats)
     ] in
     let all = rows_fit q.0 q.1 q.2 (g.Q.Ratifier.protocol.width q.0.senders) c.width-row.result few
     (g.met.Q.Ratifier.narrow q.0.senders
