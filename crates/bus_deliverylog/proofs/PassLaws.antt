@@ -13,7 +13,7 @@ use Rattle.bus_batch.proofs.Standing.{stands_between, between_alike}
 use Rattle.bus_deliverylog.specs.declared.receiving.RecvTurn.{RecvTurn}
 use Rattle.bus_deliverylog.specs.Receiving.{Receiving, HasReceived, TakesPassed, reading_of}
 use Rattle.bus_deliverylog.specs.Receiving.{passing_due, receiving_kind, receiving_op, leaving_op}
-use Rattle.bus_deliverylog.specs.Receiving.{kind_by, op_by}
+use Rattle.bus_deliverylog.specs.Receiving.{joining_by, joining_op, kind_by, op_by}
 use Rattle.bus_deliverylog.specs.Receiving.{leaving_by, LiesApart, WritesApart}
 use Rattle.bus_deliverylog.proofs.ReceiveLaws.{due_at}
 
@@ -121,3 +121,15 @@ next_apart v w same apart =
 pub leaving_apart : (v w : Receiving) → v ≡ w → IsApart v → IfSome (leaving_op w) (WritesApart w)
 leaving_apart v w same apart =
     subst (λ z. IfSome (leaving_op z) (WritesApart z)) same (leaving_writes v apart)
+
+-- and as it joins
+joining_writes : (v : Receiving) → IsApart v → IfSome (joining_op v) (WritesApart v)
+joining_writes v apart = by v.passed_at apart where
+  by : (o : Option ℕ) → IfSome o (LiesApart v.log_at v.length_at v.log_words)
+      → IfSome (joining_by o v.passed) (WritesApart v)
+  by None a = tt
+  by (Some at) a = a
+
+pub joining_apart : (v w : Receiving) → v ≡ w → IsApart v → IfSome (joining_op w) (WritesApart w)
+joining_apart v w same apart =
+    subst (λ z. IfSome (joining_op z) (WritesApart z)) same (joining_writes v apart)

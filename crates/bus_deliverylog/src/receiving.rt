@@ -354,11 +354,12 @@ impl Reader {
         }
     }
 
-    /// What it writes with its next step, or as it leaves, lies apart from the log and from its
-    /// length.
+    /// What it writes with its next step, as it leaves, or as it joins, lies apart from the log and
+    /// from its length.
     pub fn writes_apart(&self)
         ensures next { IfSome (receiving_op self.now) (WritesApart self.now) }
         ensures leaving { IfSome (leaving_op self.now) (WritesApart self.now) }
+        ensures joining { IfSome (joining_op self.now) (WritesApart self.now) }
     {
         let _ = &self.reader;
     }

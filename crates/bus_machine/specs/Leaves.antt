@@ -51,7 +51,8 @@ abbrev pub IsRefusedAsGone : {E : Type 0} → Machine E → Event → Type 0
 IsRefusedAsGone m e =
     (why : StepFault) → (Refused m e why → why ≡ fault.Gone) × (why ≡ fault.Gone → Refused m e why)
 
--- each leave is one, and whoever has left stays so, whatever happens next
+-- each leave is one, and whoever has left stays so, whatever events happen next: they are no forks,
+-- by which alone another receiver gets the number
 pub record LeavesAreForGood {S : Type 0} (X : Election (Elector S)) (P : Protocol S Bool Verdict) :
     Type 0 where
   pub leaves : (old new : Machine (Elector S)) (r : ℕ) (a : Answer) → Happens X old (Gone r) a new

@@ -9,6 +9,7 @@ ghost use Rattle.bus_core.specs.Senders.{Sender};
 ghost use Rattle.bus_world.specs.Headline.{Action};
 ghost use Rattle.bus_world.specs.World.{Event};
 ghost use Rattle.bus_world.specs.declared.events.Answer.{Answer};
+ghost use Rattle.bus_machine.specs.Forking.{ForkRefuses};
 ghost use Rattle.bus_machine.specs.Leaves.{LeavesAreForGood, LeaveRefuses};
 ghost use Rattle.bus_machine.specs.LogRefusals.{LogsRefuse, PublishedRefuse};
 ghost use Rattle.bus_machine.specs.Machine.{Machine, Trails, Reached, Happens, ShowsLog};
@@ -125,15 +126,24 @@ pub fn stops_are_for_good<Q: Ratifier>()
 {}
 
 /// A leave of a receiver that is answered changes that it has left, and its passed place, which
-/// shows 2^64 - 1 then, if it has one; and nothing else. Whoever has left stays so, whatever
-/// happens next: it holds what it held, it is answered nothing more, and each event of it is
-/// refused as Gone, and as nothing else. A leave that does nothing, or after which the passed place
-/// shows another number, is none. Nothing is refused as Gone of a receiver that has not left, or
-/// that there is not. One that has not left may leave at any time, and nobody leaves but by a leave
-/// of its own.
+/// shows 2^64 - 1 then, if it has one; and nothing else. Whoever has left stays so, whatever events
+/// happen next, until a fork gives its number to another: it holds what it held, it is answered
+/// nothing more, and each event of it is refused as Gone, and as nothing else. A leave that does
+/// nothing, or after which the passed place shows another number, is none. Nothing is refused as
+/// Gone of a receiver that has not left, or that there is not. One that has not left may leave at
+/// any time, and nobody leaves but by a leave of its own.
 pub fn leaves_are_for_good<Q: Ratifier>()
     ensures leaves { LeavesAreForGood (election_of Q.Ratifier) Q.protocol }
     ensures refuses { LeaveRefuses (election_of Q.Ratifier) }
+{}
+
+/// No fork is one to a number that is not above that of its maker, or of a receiver that has left;
+/// one that is done though the last receiver of that number has not left, or is not done though it
+/// has; one that is done and changes nothing, or that changes its maker or any other receiver; one
+/// after which the new receiver is at another place of the log than its maker, or has another part
+/// of a frame that is under way; or one that shows another number than what its maker has passed.
+pub fn fork_refuses<Q: Ratifier>()
+    ensures { ForkRefuses (Elector Q) }
 {}
 
 /// Of no machine the promise holds in which senders saw the election of one tenure end with two

@@ -82,6 +82,50 @@ finds_free C x e (at ∷ next ∷ more) others same =
     let one = length-append e.tried (look ∷ []) in
     omega arith
 
+same_before : (looks : List Look) (a b c d : Look)
+    → (looks ++ a ∷ []) ++ c ∷ [] ≡ (looks ++ b ∷ []) ++ d ∷ [] → a ≡ b
+same_before [] a b c d same = cc
+same_before (first ∷ more) a b c d same =
+    let rest : (more ++ a ∷ []) ++ c ∷ [] ≡ (more ++ b ∷ []) ++ d ∷ [] = cc in
+    same_before more a b c d rest
+
+-- the seat after a try that found the next number free, and one more
+abbrev past_free : (C : Type 0) → TableLayout → ReceiverView → ℕ → Sat C
+past_free C x e found = (
+  Tap x (receiver_tried (receiver_tried e (passed_word x (e.me + 1)) PASSED_ALL)
+      (passed_word x (e.me + 2)) found),
+  [],
+)
+
+two_longer : (e : ReceiverView) (a b : Look)
+    → length ((e.tried ++ a ∷ []) ++ b ∷ []) ≡ length e.tried + 2
+two_longer e a b =
+    let one = length-append e.tried (a ∷ []) in
+    let two = length-append (e.tried ++ a ∷ []) (b ∷ []) in
+    omega arith
+
+goes_on_none : (C : Type 0) (x : TableLayout) (e : ReceiverView) (found : List ℕ) (last number : ℕ)
+    → All (λ (at : ℕ). at ≢ PASSED_ALL) found
+    → past_free C x e last
+    ≡ with_try (with_tries (Tap x e, []) (e.me + 1) found) (passed_word x number) PASSED_ALL
+    → ⊥
+goes_on_none C x e (at ∷ []) last number others same =
+    let looks = same_before e.tried _ _ _ _ (ap (λ (m : Sat C). tries_in m) same) in
+    others 0 0 (omega arith) (sym (ap (λ (it : Look). it.found) looks))
+goes_on_none C x e [] last number others same =
+    let longer = ap (λ (m : Sat C). length (tries_in m)) same in
+    let shown = one_longer C x e (e.me + 1) [] (passed_word x number) PASSED_ALL in
+    let first : Look = record { word = passed_word x (e.me + 1); found = PASSED_ALL } in
+    let two = two_longer e first record { word = passed_word x (e.me + 2); found = last } in
+    omega arith
+goes_on_none C x e (at ∷ next ∷ more) last number others same =
+    let longer = ap (λ (m : Sat C). length (tries_in m)) same in
+    let shown =
+    one_longer C x e (e.me + 1) (at ∷ next ∷ more) (passed_word x number) PASSED_ALL in
+    let first : Look = record { word = passed_word x (e.me + 1); found = PASSED_ALL } in
+    let two = two_longer e first record { word = passed_word x (e.me + 2); found = last } in
+    omega arith
+
 pub forks_refuse : (C : Type 0) (x : TableLayout) (e : ReceiverView) → 0 < x.passers
     → ForksRefuse C x e
 forks_refuse C x e any = record {
@@ -94,4 +138,14 @@ forks_refuse C x e any = record {
       let all = h.all in
       omega arith;
   free = λ h. finds_free C x e h.found h.tries.others h.tries.tries;
+  short = λ found more h.
+      let longer = ap (λ (m : Sat C). length (tries_in m)) h.tries.tries in
+      let shown = tries_shown C x e (e.me + 1) h.found in
+      let look : Look = record { word = passed_word x (e.me + 1); found = found } in
+      let one = length-append e.tried (look ∷ []) in
+      let all = h.all in
+      omega arith;
+  goes_on = λ n found h. let r = h.ring any in
+      goes_on_none C x e r.found found r.number r.before.others
+      (r.tries ∙ ap (λ m. with_try m (passed_word x r.number) PASSED_ALL) r.before.tries);
 }

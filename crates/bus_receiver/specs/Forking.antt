@@ -63,3 +63,11 @@ pub record ForksRefuse (C : Type 0) (x : TableLayout) (e : ReceiverView) : Type 
   -- none, though the next number was free
   pub free : ¬ FindsNoSeat {C = C} (Tap x e, [])
       (Tap x (receiver_tried e (passed_word x (e.me + 1)) PASSED_ALL), [])
+  -- none, though it stopped at the first of two numbers
+  pub short : (found : ℕ) → e.me + 2 < x.passers → ¬ FindsNoSeat {C = C} (Tap x e, [])
+      (Tap x (receiver_tried e (passed_word x (e.me + 1)) found), [])
+  -- one that found the next number free, and tried the one behind it all the same
+  pub goes_on : (n : Sat C) (found : ℕ)
+      → ¬ HasForked {C = C} (Tap x e, []) n
+      (Tap x (receiver_tried (receiver_tried e (passed_word x (e.me + 1)) PASSED_ALL)
+      (passed_word x (e.me + 2)) found), [])

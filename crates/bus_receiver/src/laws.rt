@@ -31,8 +31,9 @@ pub fn counts_what_it_takes()
         ≡ Some (takes_leave s (nothing_after bases) turns) }
 {}
 
-/// Of a ring no fork passes over the number above a receiver's own. And none is answered None whose
-/// first step found that number free, nor one without a step where the ring has that number.
+/// Of a ring no fork passes over the number above a receiver's own, or tries another one once it
+/// has found that free. And none is answered None whose first step found that number free, nor one
+/// without a step where the ring has that number, or with one step where it has two.
 pub fn forks_refuse<Q: Ratifier>()
     ensures { (x : TableLayout) (e : ReceiverView) → 0 < x.passers
         → ForksRefuse (Sender (Elector Q)) x e }

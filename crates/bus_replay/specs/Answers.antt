@@ -115,7 +115,8 @@ module _ {S : Type 0} (X : Election (Elector S)) (P : Protocol S Bool Verdict) w
   repeat_trails m e (suc more) last new (inr run) T =
       repeat_trails run.0 e more last new run.4 (trails_grown X m e run.1 T)
 
-  -- of a line of the script, which has a number of nobody, and of those behind it
+  -- of a line of the script and of those behind it; a fork leaves what the last receiver of its
+  -- number was given with a number of nobody, which is this one for that line
   abbrev pub asked_trails : (m : Machine (Elector S)) (number nobody : ℕ) (c : Option Command)
       (Behind : Machine (Elector S) → List ℕ → End (Elector S) → Type 0)
       → ((mid : Machine (Elector S)) (rest : List ℕ) (end : End (Elector S)) → Behind mid rest end

@@ -1,7 +1,7 @@
 -- What the columns of an event show is what it adds to the trails.
 use Rattle.std.proofs.Common.{◌≡◌, ◌≢◌, ℕ, ◌==◌, Bool, cond, Option, Some, None, List, [], ◌∷◌}
 use Rattle.std.proofs.Common.{◌++◌, ◌<◌, codes, decimal, length, get_or, slice_index}
-use Rattle.std.proofs.Common.{inl, inr, refl, sym, ap, subst, ◌∙◌}
+use Rattle.std.proofs.Common.{true, false, inl, inr, refl, sym, ap, subst, ◌∙◌}
 use Rattle.std.proofs.lemmas.Bool.{cases_eq, eq-eqb, ne_eqb}
 use Rattle.std.proofs.lemmas.List.{get_or-set_other}
 use Rattle.std.proofs.lemmas.Option.{same_Some}
@@ -30,7 +30,7 @@ use Rattle.bus_presence.specs.Reclamation.{Entry, no_trails}
 use Rattle.bus_tenure.specs.Core.{Election}
 use Rattle.bus_tenure.specs.Elections.{Elector}
 use Rattle.bus_tenure.specs.declared.turns.Turn.{Turn as Answered}
-use Rattle.bus_replay.specs.Text.{answer_text, behind}
+use Rattle.bus_replay.specs.Text.{answer_text, behind, fork_text}
 use Rattle.bus_world.specs.Headline.{Action, HasPut, HasMarked, Stepped}
 use Rattle.bus_world.specs.Trails.{step_action, put_actions, mark_actions}
 use Rattle.bus_world.specs.Turning.{number_found, words_after}
@@ -276,6 +276,10 @@ module _ {E : Type 0} (p : TraceSizes) (old new : Machine E) (text : List ℕ) w
       record { shown = is; words = words ∙ ap (words_after old.words) none }
 
 -- ---- a fork
+fork_told : (did : Bool) → fork_text did ≡ cond did (codes "forked") (codes "no seat")
+fork_told true = refl
+fork_told false = refl
+
 module _ {E : Type 0} (p : TraceSizes) (m : Machine E) (i j : ℕ) (did : Bool) (new : Machine E)
     (h : Forks m i j did new) where
   -- its step is by the passed place of the new number
@@ -298,6 +302,8 @@ module _ {E : Type 0} (p : TraceSizes) (m : Machine E) (i j : ℕ) (did : Bool) 
 
   pub fork_shown : ShowsFork p m i j did new
   fork_shown = record {
+    row = λ line. ap (λ told. column (decimal line) ++ column (codes "receiver" ++ behind i)
+        ++ fork_columns p m i j ++ told) (fork_told did);
     step = λ at is. word_taken p m new (fork_columns p m i j) (codes "-") (codes "Fork")
         (Cas (record { 0 = at }) PASSED_ALL h.maker.passed) (fork_within (Some at) is)
         (fork_words (Some at) is) (fork_text_is (Some at) is);

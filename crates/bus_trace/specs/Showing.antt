@@ -24,7 +24,7 @@ use Rattle.bus_world.specs.declared.events.Answer.{Answer}
 use Rattle.bus_world.specs.declared.events.Answer.TheVariants as answer
 use Rattle.bus_replay.specs.Text.{answer_text, behind}
 use Rattle.bus_trace.specs.Rows.{column, tenure_text, no_step, step_text, action_text, actions_text}
-use Rattle.bus_trace.specs.Rows.{columns, who_text, fork_columns}
+use Rattle.bus_trace.specs.Rows.{columns, who_text, fork_columns, fork_row}
 use Rattle.bus_trace.specs.Words.{TraceSizes, word_name}
 
 -- what an event with this answer adds
@@ -165,10 +165,13 @@ pub record Shows {E : Type 0} (p : TraceSizes) (X : Election E) (m : Machine E) 
   pub who : ShowsWho X m e a
   pub event : ShowsEvent p X m e a new
 
--- Receiver i has forked to number j, or found no seat there. The line has who is asked, these
--- columns, and whether that was done (fork_row). It shows
+-- Receiver i has forked to number j, or found no seat there. The line shows
 pub record ShowsFork {E : Type 0} (p : TraceSizes) (m : Machine E) (i j : ℕ) (did : Bool)
     (new : Machine E) : Type 0 where
+  -- behind its number who is asked, what its step is, and whether it was done
+  pub row : (line : ℕ) → fork_row p line m i j did
+      ≡ column (decimal line) ++ column (codes "receiver" ++ behind i) ++ fork_columns p m i j
+      ++ (if did then codes "forked" else codes "no seat")
   -- the compare_exchange in the passed place of that number
   pub step : (at : ℕ) → passed_by m.layout m.reuse j ≡ Some at
       → ShowsWord p m new (codes "-") (codes "Fork") at (fork_columns p m i j)

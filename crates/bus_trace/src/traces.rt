@@ -74,9 +74,9 @@ fn trace_behind<Q: Ratifier + Drop>(
     }
 }
 
-/// What is written for an input: the names of the columns, and a line for each event that `replay`
-/// plays of it, with ratifiers of this kind, up to the first refusal, which ends it. It is no error
-/// that a script is refused: the only one is that memory was refused.
+/// What is written for an input: the names of the columns, and a line for each event and each fork
+/// that `replay` plays of it, with ratifiers of this kind, up to the first refusal, which ends it.
+/// It is no error that a script is refused: the only one is that memory was refused.
 pub fn trace_of<Q: Ratifier + Drop>(alloc: Global, input: &[u8]) -> Result<Answer, NoMemory>
     ensures { let X = election_of Q.Ratifier in
         IfOk result (λ answer. IsTrace X Q.protocol input.now answer.outcome

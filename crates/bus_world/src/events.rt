@@ -57,7 +57,8 @@ pub enum StepFault {
     Close(CloseFault),
     /// The receiver has left for good.
     Gone,
-    /// Of a fork alone: the number of the new receiver is not above that of its maker.
+    /// Of a fork alone, and looked at before Gone: the number of the new receiver is not above that
+    /// of its maker.
     NotAbove,
 }
 

@@ -39,3 +39,15 @@ fn two_collects_disagree_too(rt: HostRuntime) {
           turn 1: delivered 0 0 0\nowners 1\norder 1 0 62\ngiven 0 0\n",
     );
 }
+
+#[test]
+fn receivers_fork_by_two_collects_too(rt: HostRuntime) {
+    plays_by_two_collects(
+        &rt,
+        b"ring 1 1 1 2 16 3\nput 0 61\nturn 0 0 99\nturn 0 0 99\nrecv 0 2\nfork 0 2\nfork 0 2\n\
+          recv 2 1\nrecv 2 99\ngone 2\nfork 0 2\n",
+        "put 0: number 0\nturn 0: own 0\nturn 0: delivered 0 0 0\nrecv 0: head 0 0\n\
+          fork 0 2: forked\nfork 0 2: no seat\nrecv 2: going\nrecv 2: empty\ngone 2: gone\n\
+          fork 0 2: forked\nowners 0\norder 0 0 61\ngiven 0 0\ngiven 2 0\n",
+    );
+}
