@@ -167,9 +167,10 @@ enum kioskbasil_code {
   KIOSKBASIL_USED_HANDLE = 55     /* fork: the handle that is to be filled is not empty */
 };
 
-/* A code of 32 or more says that nothing was done, but of two calls. After IN_USE and PAGE_OUT of
+/* A code of 32 or more says that nothing was done, but of three calls. After IN_USE and PAGE_OUT of
  * kioskbasil_end all its handles are empty, and where the first receiver was empty the others are
- * given up. Before NEVER_FITS of kioskbasil_try_send turns were taken, and the batch is kept. */
+ * given up. Before NEVER_FITS of kioskbasil_try_send turns were taken, and the batch is kept.
+ * Before NO_MEMORY of kioskbasil_fork a number may have been taken, and given up. */
 static inline bool kioskbasil_refused(uint32_t code) { return code >= 32; }
 
 /* Handles. Their fields are the library's. */
@@ -617,9 +618,9 @@ static inline uint32_t kioskbasil_meet(kioskbasil_receiver *receiver, kioskbasil
  * receiver has left. Each is tried by one step, up to the first that is free. So a program keeps
  * numbers for later: it opens a ring with more receivers than it needs, and gives the last ones up
  * at the start. Of another bus there is always one more.
- * KIOSKBASIL_OK; EMPTY_HANDLE; USED_HANDLE where `joined` is not empty; NO_SEAT where no such
- * number was free, for now; NO_MEMORY, and then the number is free again. Unless it is OK `joined`
- * is as it was, and `receiver` hears on as before. */
+ * KIOSKBASIL_OK; EMPTY_HANDLE; USED_HANDLE where `joined` is not empty; NO_SEAT where each such
+ * number was taken when it was tried; NO_MEMORY, and then a number that it took is free again.
+ * Unless it is OK `joined` is as it was, and `receiver` hears on as before. */
 static inline uint32_t kioskbasil_fork(kioskbasil_receiver *receiver,
                                        kioskbasil_receiver *joined) {
   if (!receiver || !joined) return KIOSKBASIL_NULL;

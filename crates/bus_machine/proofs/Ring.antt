@@ -13,5 +13,5 @@ pub mod LoadsInTurn
 -- What a holder has found in passed places stood there when it loaded them, each in the place of
 -- the next receiver.
 pub mod ShownPlaces
--- What the words that stand say of what a receiver was given.
+-- What the words say of what receivers were given, and what of it still stands.
 pub mod Giving

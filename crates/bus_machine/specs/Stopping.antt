@@ -68,7 +68,7 @@ IsRefusedAsStopped m e =
 abbrev pub HasNotStopped : {E : Type 0} → Machine E → ℕ → Type 0
 HasNotStopped m s = (slice_get m.senders s ≡ None) ⊎ (has_stopped m s ≡ false)
 
--- each stop is one, and whoever has stopped stays so, whatever happens next
+-- each stop is one, and whoever has stopped stays so, whatever events happen next
 pub record StopsAreForGood {S : Type 0} (X : Election (Elector S)) (P : Protocol S Bool Verdict) :
     Type 0 where
   pub stops : (old new : Machine (Elector S)) (T : Trails) (s : ℕ) (a : Answer) → Reached X old T

@@ -10,6 +10,7 @@ ghost use Rattle.bus_world.specs.Headline.{Action};
 ghost use Rattle.bus_world.specs.World.{Event};
 ghost use Rattle.bus_world.specs.declared.events.Answer.{Answer};
 ghost use Rattle.bus_machine.specs.Forking.{ForkRefuses};
+ghost use Rattle.bus_machine.specs.Giving.{AreGivenAlike, GivenRefuse};
 ghost use Rattle.bus_machine.specs.Leaves.{LeavesAreForGood, LeaveRefuses};
 ghost use Rattle.bus_machine.specs.LogRefusals.{LogsRefuse, PublishedRefuse};
 ghost use Rattle.bus_machine.specs.Machine.{Machine, Trails, Reached, Happens, ShowsLog};
@@ -78,6 +79,24 @@ pub fn history_stands<Q: Ratifier>()
     election_is_lawful::<Q>();
 }
 
+/// Each receiver was given just what the words say that stand before its place, of all that was
+/// published. So of any two who has read less was given a beginning of what the other was given,
+/// and from a fork on its maker and the new one were given the same, as far as both have read. None
+/// is so that has read no word, and was given something; nor are two that have read as many words,
+/// and were given two orders.
+pub fn receivers_are_given_alike<Q: Ratifier>()
+    ensures given { let X = election_of Q.Ratifier in
+        (senders rounds rows capacity passers : ℕ)
+        → IsLayout (layout_with Q.protocol senders rounds rows capacity passers)
+        → (machine : Machine (Elector Q)) (trails : Trails)
+        → machine.layout ≡ layout_with Q.protocol senders rounds rows capacity passers
+        → HasRows machine.reuse → Reached X machine trails → AreGivenAlike machine trails }
+    ensures refuses { (machine : Machine (Elector Q)) (trails : Trails)
+        → GivenRefuse machine trails }
+{
+    election_is_lawful::<Q>();
+}
+
 /// And whatever happens to such a machine: what that publishes, if it publishes anything, stands in
 /// its cells just behind what was published before, also where no receiver is left for whom it has
 /// to stand; and the length counts all that is published then.
@@ -115,7 +134,7 @@ pub fn steps_are_bounded<Q: Ratifier>()
 
 /// A stop that is answered changes who has stopped, and nothing else: what is no event of that
 /// sender does what it did before, and is answered and refused alike. Whoever has stopped does
-/// nothing any more, whatever happens next: no event of it is answered, it holds what it held, and
+/// nothing any more, whatever events happen next: none of it is answered, it holds what it held, and
 /// it has no action more and no step of a pin or of a reclamation; whatever else is wrong with an
 /// event of it, it is refused as Stopped. A stop that does nothing is none. Nothing is refused as
 /// Stopped of one that goes on, or that there is not, or of a receiver. One that goes on may stop,
@@ -127,11 +146,11 @@ pub fn stops_are_for_good<Q: Ratifier>()
 
 /// A leave of a receiver that is answered changes that it has left, and its passed place, which
 /// shows 2^64 - 1 then, if it has one; and nothing else. Whoever has left stays so, whatever events
-/// happen next, until a fork gives its number to another: it holds what it held, it is answered
-/// nothing more, and each event of it is refused as Gone, and as nothing else. A leave that does
-/// nothing, or after which the passed place shows another number, is none. Nothing is refused as
-/// Gone of a receiver that has not left, or that there is not. One that has not left may leave at
-/// any time, and nobody leaves but by a leave of its own.
+/// happen next, which forks are none of: it holds what it held, it is answered nothing more, and
+/// each event of it is refused as Gone, and as nothing else. A leave that does nothing, or after
+/// which the passed place shows another number, is none. Nothing is refused as Gone of a receiver
+/// that has not left, or that there is not. One that has not left may leave at any time, and nobody
+/// leaves but by a leave of its own.
 pub fn leaves_are_for_good<Q: Ratifier>()
     ensures leaves { LeavesAreForGood (election_of Q.Ratifier) Q.protocol }
     ensures refuses { LeaveRefuses (election_of Q.Ratifier) }

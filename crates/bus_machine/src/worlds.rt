@@ -412,8 +412,8 @@ impl<Q: Ratifier + Drop> World<Q> {
 
     /// Receiver `receiver` forks to a higher number, and the answer says whether it has: it has
     /// exactly where the last receiver of that number has left. Then one stands there that is just
-    /// what its maker is, but for its passed place, and is given what that will be given. Else
-    /// nothing has changed. Where words of the log are used again it is one step, a
+    /// what its maker is, but for its passed place, and what the maker was given counts as given to
+    /// it. Else nothing has changed. Where words of the log are used again it is one step, a
     /// compare_exchange on the passed place of that number, and else none. Takes no memory.
     pub fn fork(&mut self, receiver: u64, number: u64) -> Result<bool, StepFault>
         ensures forked { IfOk result (λ did. Forks self.old receiver number did self.new) }
@@ -632,9 +632,10 @@ impl<Q: Ratifier + Drop> World<Q> {
     }
 
     /// What the receiver of this number was given: the items, leave marks and the end that it was
-    /// answered, each leave mark behind as many items as stood before it. Where words of the log
-    /// are used again it is what still stands of the items and leave marks, and the end. There must
-    /// be such a receiver. Memory is its only refusal.
+    /// answered, each leave mark behind as many items as stood before it. Of one that joined its
+    /// maker's up to then are the first. Where words of the log are used again it is what still
+    /// stands of the items and leave marks, and the end. There must be such a receiver. Memory is
+    /// its only refusal.
     pub fn given(&self, alloc: Global, receiver: u64) -> Result<Order, NoMemory>
         requires { receiver < length self.now.receivers }
         ensures answered { let X = election_of Q.Ratifier in

@@ -22,6 +22,8 @@ pub mod BehindShown
 pub mod AboveFrames
 -- A receiver of a ring finds, from what it has passed on, each word that was published there.
 pub mod Rings
+-- Any two receivers that seats show were answered the same, as far as both have read.
+pub mod Alike
 -- All words from the floor on fit the log: the length is no further behind the floor than the log
 -- has words.
 pub mod Fitting

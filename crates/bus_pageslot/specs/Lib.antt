@@ -23,6 +23,7 @@ pub mod Promised
 pub mod Histories
 pub mod SafeSeats
 pub mod Rings
+pub mod Alike
 pub mod Lasting
 pub mod Truths
 pub mod Carried

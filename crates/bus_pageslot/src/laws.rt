@@ -40,6 +40,7 @@ ghost use Rattle.bus_pageslot.specs.Rings.{HasSeat, LeavesAll, RingShows, ShowsR
 ghost use Rattle.bus_pageslot.specs.Rings.{StoresApart};
 ghost use Rattle.bus_pageslot.specs.declared.rule.View.{View};
 ghost use Rattle.bus_pageslot.specs.declared.rule.View.TheVariants as view;
+ghost use Rattle.bus_pageslot.specs.Alike.{AreAlike, AlikeRefuses};
 ghost use Rattle.bus_pageslot.specs.Buses.{IsNewSeat};
 ghost use Rattle.bus_pageslot.specs.Carried.{WereAnswered};
 ghost use Rattle.bus_pageslot.specs.Histories.{HasHistory, LeavesLog, LeavesRule, Shown};
@@ -70,6 +71,22 @@ pub fn seats_keep_promises<Q: Ratifier>()
         (plan : Plan) (s : State (Option Page) (View (Sender (Elector Q))))
         (r : TableInvariant P (A plan) s)
         → IsPromised P (A plan).table_layout (base_in (A plan)) (log_in (A plan) r.state) s }
+{
+    threads_may_go_by::<Q>();
+}
+
+/// Between any two steps each receiver that a seat shows was answered just what the words say that
+/// stand before its place, of all that was published. So of any two who has read less was answered
+/// a beginning of what the other was answered, and from a fork on its maker and the new one were
+/// answered the same, as far as both have read. None is so that has read no word, and was given
+/// something; nor are two that have read as many words, and were given two orders.
+pub fn receivers_agree<Q: Ratifier>()
+    ensures agree { let P = process_by Q.Ratifier in let A = automaton_by Q.Ratifier in
+        (plan : Plan) (s : State (Option Page) (View (Sender (Elector Q))))
+        (r : TableInvariant P (A plan) s)
+        → AreAlike (A plan).table_layout (log_in (A plan) r.state) s }
+    ensures refuses { (x : TableLayout) (log : List ℕ)
+        (s : State (Option Page) (View (Sender (Elector Q)))) → AlikeRefuses x log s }
 {
     threads_may_go_by::<Q>();
 }

@@ -329,12 +329,12 @@ impl<Q: Ratifier + Drop> Receiver<Q> {
     }
 
     /// Another receiver, which is just what this one is: with what it knows, has read and passed,
-    /// and was answered. So it is given just what this one will be given. From then on each is of
-    /// its own, for whatever thread.
+    /// and was answered. So it is given just what this one will be given (`receivers_agree` of
+    /// `bus_pageslot`). From then on each is of its own, for whatever thread.
     ///
     /// Of a ring it has the lowest number above this one's that is free, as one is whose receiver
-    /// has left. It tries these numbers, one step each, until one is free: None where none was.
-    /// That is an answer for now. Of another bus its seat shows no step, and it never gives None.
+    /// has left. It tries these numbers, one step each, until one is free: None where each was
+    /// taken when it was tried. Of another bus its seat shows no step, and it never gives None.
     pub fn fork(&mut self, bus: &Bus<Q>) -> Option<Receiver<Q>>
         requires { bus_of self.old ≡ bus.now.table }
         ensures table { (bus_of self.new ≡ bus_of self.old)

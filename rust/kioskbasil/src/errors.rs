@@ -93,7 +93,8 @@ faults! {
 }
 
 faults! {
-    /// Why no receiver was made; nothing has changed.
+    /// Why no receiver was made. The one that forks hears on as before; of a ring a number may have
+    /// been taken, and given up, before memory was refused.
     ForkError {
         /// Memory was refused.
         NoMemory = 37: "memory was refused",

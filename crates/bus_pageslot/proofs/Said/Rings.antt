@@ -148,7 +148,7 @@ module _ {C : Type 0} (P : Process C) (A : Automaton C) (L : AutomatonLaws P A)
       }
 
   -- what is known of a receiver that a view shows
-  known_of : (j : ℕ) (e : ReceiverView) (v : View C) → IsTrueOf P A r.state r.seat r.ear j v
+  pub known_of : (j : ℕ) (e : ReceiverView) (v : View C) → IsTrueOf P A r.state r.seat r.ear j v
       → ShowsReceiver e v → (y : TableLayout) × KnowsLog A r.state r.ear j y e
   known_of j e (Maker y made) h none = absurd none
   known_of j e (Sender c t notes) h none = absurd none

@@ -11,9 +11,9 @@ impl Receiver {
     /// receiver, both taken with nothing heard between.
     ///
     /// Of a ring it takes the lowest number above this one's that is free, and `NoSeat` says that
-    /// none is by now. To keep some for later, open a ring with more receivers than are needed, and
-    /// drop the last ones at the start. A fork that is dropped frees its number. Of another bus
-    /// there is always one more. It waits for nobody.
+    /// each was taken when it was tried. To keep some for later, open a ring with more receivers
+    /// than are needed, and drop the last ones at the start. A fork that is dropped frees its
+    /// number. Of another bus there is always one more. It waits for nobody.
     ///
     /// ```
     /// use kioskbasil::{Bus, ForkError, Shape};
