@@ -6,3 +6,5 @@ pub mod RefusalLaws
 pub mod PromiseRefused
 -- No promise holds of a log that lacks what was put, or has a word that was never stored.
 pub mod LogRefused
+-- No fork is one that goes down, takes a number that is taken, or makes another than its maker.
+pub mod ForkLaws

@@ -1,5 +1,5 @@
 -- What a fork that is done keeps, and what none is.
-use Rattle.std.specs.Prelude.{◌≡◌, ◌≢◌, ¬◌, ℕ, ◌≤◌, ◌×◌, Bool, true, false, Some, None, List, []}
+use Rattle.std.specs.Prelude.{◌≡◌, ◌≢◌, ℕ, ◌≤◌, Bool, true, false, Some, None, List, []}
 use Rattle.std.specs.Prelude.{slice_get, slice_index}
 use Rattle.bus_batch.specs.Frames.{Order}
 use Rattle.bus_deliverylog.specs.Receiving.{Receiving}

@@ -7,6 +7,8 @@ use Rattle.std.specs.Prelude.{IfSome, Result, Ok, IfOk}
 use Rattle.std.proofs.lemmas.Bool.{cases_Bool}
 use Rattle.std.proofs.lemmas.Bool.Decides.{eqb_tells}
 use Rattle.std.proofs.lemmas.List.{set-get_or}
+use Rattle.bus_batch.proofs.FrameLaws.{spells_one}
+use Rattle.bus_batch.specs.Frames.{Order, Spells}
 use Rattle.bus_core.specs.declared.limits.TheConstants.{PASSED_APART}
 use Rattle.bus_deliverylog.specs.Receiving.{Receiving, leaving_by, joining_by, joining_op}
 use Rattle.bus_deliverylog.specs.Receiving.{forked_at}
@@ -17,6 +19,7 @@ use Rattle.bus_register.specs.declared.limits.TheConstants.{MOST_RECEIVERS, MOST
 use Rattle.bus_register.specs.declared.limits.TheConstants.{PASSED_ALL}
 use Rattle.bus_register.specs.declared.registers.Op.{Op}
 use Rattle.bus_register.specs.declared.registers.Op.TheVariants.{Cas}
+use Rattle.bus_register.specs.declared.registers.SenderNo.{SenderNo}
 use Rattle.bus_tenure.specs.Core.{Election}
 use Rattle.bus_world.proofs.Bounds.{words_low}
 use Rattle.bus_world.proofs.LogLaws.{length-logged}
@@ -35,6 +38,7 @@ use Rattle.bus_machine.specs.Forking.{KeepsForked}
 use Rattle.bus_machine.specs.Machine.{Machine, Trails, Reached, Joins, Forks, IsOnWord, fork_in}
 use Rattle.bus_machine.specs.Machine.{passed_by, passers_place, trails_joined}
 use Rattle.bus_machine.specs.Playing.{AreRows, IsHeld}
+use Rattle.bus_machine.specs.Promise.{IsPromised, IsPromisedBy}
 
 -- its step is on the word that a leave stores to
 joins_within : (many passed : ℕ) (o : Option ℕ) → IfSome (leaving_by o) (λ q. register q < many)
@@ -223,6 +227,17 @@ module _ {E : Type 0} (X : Election E) (m m' : Machine E) (i j : ℕ) where
         (sym (d.finds place e))
         ∙ ap with_words (set-get_or m.words place 0)
 
+-- ---- the promise
+-- it holds by whatever order and owners the log spells
+by_spelled : {E : Type 0} (X : Election E) (m : Machine E) (T : Trails) (order : Order)
+    (owners : List (ℕ × SenderNo)) → IsPromised X m T → Spells m.layout.senders T.log order owners
+    → IsPromisedBy X m T order owners
+by_spelled X m T order owners k spelled =
+    let one =
+    spells_one m.layout.senders T.log k.order order k.owners owners k.by.spelled spelled in
+    subst (λ o. IsPromisedBy X m T o owners) one.0
+    (subst (λ os. IsPromisedBy X m T k.order os) one.1 k.by)
+
 -- ---- what is so of a call that answers this
 module _ {E : Type 0} (X : Election E) (P : Protocol E (Unit {0}) ℕ) (m : Machine E)
     (now m' : Machine E) (i j : ℕ) (is : m ≡ now) (r : Result Bool StepFault)
@@ -241,8 +256,12 @@ module _ {E : Type 0} (X : Election E) (P : Protocol E (Unit {0}) ℕ) (m : Mach
         kept : Forks m i j true m' → Reached X m T → KeepsForked X m T i j m'
         kept d led = record {
           reached = λ n nobody silent. Joins m m' T i j n led d nobody silent;
-          promised = λ n nobody silent. promised X P m' (trails_joined i j n T)
+          promised = λ n order owners nobody silent was.
+              by_spelled X m' (trails_joined i j n T) order owners
+              (promised X P m' (trails_joined i j n T)
               (sits_forked X P m m' i j d (sits X P m s h))
-              (Joins m m' T i j n led d nobody silent);
+              (Joins m m' T i j n led d nobody silent))
+              (subst (λ x. Spells x.senders T.log order owners) (sym (forks_reuse X m m' i j d).0)
+              was.spelled);
           nobody = some_nobody X m T led;
         }
