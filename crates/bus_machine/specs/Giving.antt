@@ -1,5 +1,5 @@
 -- What receivers were given, and what of it still stands.
-use Rattle.std.specs.Prelude.{◌≡◌, ◌≢◌, ¬◌, ℕ, ◌≤◌, Some, List, [], drop, take, slice_get}
+use Rattle.std.specs.Prelude.{◌≡◌, ◌≢◌, ℕ, ◌≤◌, Some, List, [], drop, take, slice_get}
 use Rattle.bus_batch.specs.Frames.{Frame, Order, AreFrames, log_words, log_pieces, order_in}
 use Rattle.bus_deliverylog.specs.Orders.{IsPrefixOfOrder}
 use Rattle.bus_deliverylog.specs.Receiving.{Receiving}

@@ -1,5 +1,5 @@
 -- What receivers that seats show were answered, beside each other.
-use Rattle.std.specs.Prelude.{◌≡◌, ◌≢◌, ¬◌, ℕ, Option, List, []}
+use Rattle.std.specs.Prelude.{◌≡◌, ◌≢◌, ℕ, Option, List, []}
 use mathlib.Core.Option.{some}
 use lib.ListN.{get_elem?}
 use Rattle.atomic_table.specs.Table.{State}
