@@ -1,13 +1,13 @@
 -- What a sender accepts between its turns keeps what senders, words, page and owners keep: said of
 -- words and senders by number.
 use Rattle.std.proofs.Common.{◌+◌, ◌*◌, ◌≡◌, ℕ, zero, suc, ◌<◌, ◌≤◌, ◌^◌, Bool, true, false, cond}
-use Rattle.std.proofs.Common.{◌&&◌}
-use Rattle.std.proofs.Common.{◌==◌, nat_lt, nat_le, Option, Some, List, [], ◌∷◌, ◌++◌, length}
+use Rattle.std.proofs.Common.{◌&&◌, nat_lt, nat_le, Option, Some, List, [], ◌∷◌, ◌++◌, length}
 use Rattle.std.proofs.Common.{filter, arith, refl, sym, ◌∙◌, ap, subst}
 use Rattle.std.specs.Prelude.{All}
 use Rattle.std.proofs.lemmas.Bool.{and_parts, leb-true, ltb-true, true≢false}
 use Rattle.std.proofs.lemmas.List.{length-append}
 use Rattle.std.proofs.lemmas.List.Elements.{All-append, All-from_recursion}
+use Rattle.std.proofs.lemmas.Grind.{common_steps}
 use Rattle.bus_register.specs.declared.registers.SenderNo.{SenderNo}
 use Rattle.bus_register.specs.Protocol.{Protocol, Laws}
 use Rattle.bus_register.specs.Tables.{put, Beside}
@@ -17,15 +17,15 @@ use Rattle.bus_batch.specs.declared.batches.Phase.TheVariants.{Open, Marking, Cl
 use Rattle.bus_batch.specs.declared.messages.Mark.{Mark}
 use Rattle.bus_batch.specs.declared.messages.Item.{Item}
 use Rattle.bus_batch.specs.Messages.{IsMessage}
-use Rattle.bus_batch.specs.Batches.{Pending, IsKept, next_of, frame_of}
-use Rattle.bus_batch.specs.Frames.{AreFrames, Frame, order_of, items_in, log_words, frame_words}
+use Rattle.bus_batch.specs.Batches.{Pending, IsKept, next_of}
+use Rattle.bus_batch.specs.Frames.{AreFrames, Frame, log_words}
 use Rattle.bus_tenure.specs.Core.{Core, Election, Layout, is_empty}
 use Rattle.bus_tenure.specs.declared.pages.Page.{Page}
 use Rattle.bus_tenure.specs.declared.phases.Phase.{Phase as SenderPhase}
 use Rattle.bus_tenure.specs.declared.phases.Phase.TheVariants as phase
 use Rattle.bus_ownerbits.specs.OneOwner.{OneOwner}
 use Rattle.bus_world.specs.Log.{first_numbers, next_number, sent_count}
-use Rattle.bus_world.specs.declared.limits.TheConstants.{FIRST_NUMBERS, FIRST_RING_NUMBERS}
+use Rattle.bus_world.specs.declared.limits.TheConstants.{FIRST_NUMBERS}
 use Rattle.bus_world.proofs.LogLaws.{length-logged, log_words-append}
 use Rattle.bus_world.specs.World.{IsLayout}
 use Rattle.bus_world.specs.Private.Sending.{Part, Fits, Sending}
@@ -66,16 +66,12 @@ filter_short p (x ∷ xs) = shorter (p x) x (filter p xs) (length xs) (filter_sh
 
 sent_short : (senders s : ℕ) (frames : List Frame) → AreFrames senders frames
     → 17 * sent_count s frames ≤ 16 * length (log_words frames)
-sent_short senders s frames lawful =
-    let a = filter_short (λ i. i.sender.0 == s) (items_in (order_of frames).entries) in
-    let b = items_few senders frames lawful in omega arith
+sent_short senders s frames lawful = grind (arith, common_steps, filter_short, items_few)
 
 -- and no more than sixteen in each tenure
 sent_low : (senders s : ℕ) (frames : List Frame) → AreFrames senders frames
     → sent_count s frames ≤ 2 ^ 44
-sent_low senders s frames lawful =
-    let a = filter_short (λ i. i.sender.0 == s) (items_in (order_of frames).entries) in
-    let b = items_low senders frames lawful in omega arith
+sent_low senders s frames lawful = grind (arith, common_steps, filter_short, items_low)
 
 -- ---- tests
 pub open_is : (ph : Phase) → is_open ph ≡ true → ph ≡ Open
@@ -129,18 +125,7 @@ module _ {E : Type 0} (X : Election E) (P : Protocol E (Unit {0}) ℕ)
     goes_behind (phase.Electing t u) f = behind_all f.1.0
     goes_behind (phase.Taken t) f = absurd f
     goes_behind (phase.Holding t page stored true) f =
-        let written = f.1 in
-        let more =
-        ap length
-        (ap log_words written.frames_are ∙ log_words-append written.front (frame_of c.queue t))
-        ∙ length-append (log_words written.front) (frame_words (frame_of c.queue t)) in
-        record {
-          front = written.front;
-          lawful = (front_lawful x.senders 0 written.front (frame_of c.queue t)
-              (subst (AreFrames x.senders) written.frames_are h.log.lawful)).0;
-          fewer = omega arith;
-          first = written.goes_on.0;
-        }
+        grind (arith, common_steps, length, log_words-append, length-append, front_lawful)
     goes_behind (phase.Holding t page stored false) f = behind_all f.1.goes_on.0
     goes_behind (phase.Giving t reason) f = absurd f
 
@@ -164,11 +149,7 @@ module _ {E : Type 0} (X : Election E) (P : Protocol E (Unit {0}) ℕ)
             let within = h.log.fits flat in
             let size = length-logged h.log in
             omega arith
-        by (suc n) ring =
-            let low : base c.me < FIRST_RING_NUMBERS = base_low (suc n) ring in
-            let short = sent_low x.senders c.me its.front its.lawful in
-            let first = its.first in
-            omega arith
+        by (suc n) ring = grind (arith, common_steps, base_low, sent_low, its)
 
     pub numbers_fit : next_of c.queue < 2 ^ 48
     numbers_fit = let few = own.queue.few in let first = first_fits in omega arith

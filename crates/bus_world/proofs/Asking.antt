@@ -2,10 +2,11 @@
 -- its sender.
 use Rattle.std.proofs.Common.{◌≡◌, ℕ, zero, suc, ◌+◌, ◌/◌, Bool, true, false, cond, ◌==◌, nat_le}
 use Rattle.std.proofs.Common.{Option, Some, None, inl, inr, List, [], ◌∷◌, ◌++◌, length, slice_get}
-use Rattle.std.proofs.Common.{slice_set, refl, sym, ◌∙◌, ap, subst}
+use Rattle.std.proofs.Common.{slice_set, refl, sym, ◌∙◌, ap, subst, arith}
 use Rattle.std.proofs.lemmas.Bool.{cases_eq}
 use Rattle.std.proofs.lemmas.Bool.Decides.{eqb_tells}
 use Rattle.std.proofs.lemmas.Option.{same_Some, slice_get_within}
+use Rattle.std.proofs.lemmas.Grind.{common_steps}
 use Rattle.bus_register.specs.Tables.{Beside}
 use Rattle.bus_register.specs.Private.TableLaws.{get_set_same, get_set_other}
 use Rattle.bus_batch.specs.Batches.{Pending, body_of, frame_of, phase_sent}
@@ -20,7 +21,6 @@ use Rattle.bus_tenure.specs.Situations.{core_elected, waits, queue_after}
 use Rattle.bus_tenure.specs.declared.pages.Page.{Page}
 use Rattle.bus_tenure.specs.declared.phases.Reason.{Reason}
 use Rattle.bus_tenure.specs.declared.phases.Reason.TheVariants.{Sent, FoundEnd, NoRoom}
-use Rattle.bus_tenure.specs.declared.phases.Phase.TheVariants as phase
 use Rattle.bus_world.specs.Headline.{Action, HasMarked, Asked}
 use Rattle.bus_world.specs.Private.Machines.{core_after}
 use Rattle.bus_world.specs.Turning.{core_with_page}
@@ -73,16 +73,7 @@ module _ {E : Type 0} (X : Election E) (c : Core E) (m : Mark) where
   elected_waiting : (t : ℕ) (later : E) (o : Option ℕ)
       → (core_elected c t later o).queue.phase ≡ Marking m → c.queue.phase ≡ Marking m
   elected_waiting t later None e = e
-  elected_waiting t later (Some o) e = by_test (o == c.me) e
-    where
-      by_test : (b : Bool)
-          → (cond b (record c { phase = phase.Electing t later }) (record c {
-            queue = record c.queue { busy = false };
-            least = t + 1;
-            phase = phase.Resting;
-          })).queue.phase ≡ Marking m → c.queue.phase ≡ Marking m
-      by_test true i = i
-      by_test false i = i
+  elected_waiting t later (Some o) e = grind (arith, common_steps)
 
   pub turn_waiting : (z : Situation E) (home : Option Page) (got word : ℕ)
       → (core_after X c z home got word).queue.phase ≡ Marking m → c.queue.phase ≡ Marking m
@@ -108,10 +99,7 @@ body_waits m Shut first messages e = cc
 
 one_frame : (f : Frame) (i : ℕ) (g : Frame) → slice_get (f ∷ []) i ≡ Some g → f ≡ g
 one_frame f zero g e = same_Some _ _ e
-one_frame f (suc i) g e = absurd (none_there i g e)
-  where
-    none_there : (i : ℕ) (g : Frame) → slice_get [] i ≡ Some g → ⊥
-    none_there i g e = cc
+one_frame f (suc i) g e = cc
 
 -- each frame of the log after a turn was there before, or it is that of the sender's batch
 pub turn_frames : {E : Type 0} (X : Election E) (c : Core E) (z : Situation E) (frames : List Frame)
@@ -121,13 +109,7 @@ pub turn_frames : {E : Type 0} (X : Election E) (c : Core E) (z : Situation E) (
     → (i : ℕ) (f : Frame) (m : Mark) → slice_get (frames_after X c z frames) i ≡ Some f
     → f.body ≡ Marked m → D m f
 turn_frames X c (StoresLength t page stored) frames D old new =
-    λ i f m at says. elim (got_split frames (frame_of c.queue t ∷ []) i f at) [
-      | inl l ↦ old i f m l says
-      | inr r ↦
-          let is = one_frame (frame_of c.queue t) r.0 f r.2 in
-          subst (D m) is (new t m (body_waits m c.queue.phase c.queue.first c.queue.messages
-          (ap (λ (g : Frame). g.body) is ∙ says)))
-    ]
+    grind (arith, common_steps, got_split, one_frame, body_waits)
 turn_frames X c z frames D old new = old
 
 -- ---- the trails of all, of which that of one may have more
@@ -149,10 +131,7 @@ module _ {E : Type 0} (senders : ℕ → Option (Core E)) (frames : List Frame) 
       → Asked m (now f.owner.0)) → Askings senders' frames' now
   askings_on senders' beside c' new frames' own says = record {
     waiting = λ q d m i waits. elim (cases_eq q p) [
-      | inl e ↦
-          let same : c' ≡ d = same_Some _ _ (sym new ∙ ap senders' (sym e) ∙ i) in
-          subst (λ z. Asked m (now z)) (sym e)
-          (own m (ap (λ (z : Core E). z.queue.phase) same ∙ waits))
+      | inl e ↦ grind (arith, common_steps, same_Some)
       | inr ne ↦ later m q (h.waiting q d m (sym (beside q ne) ∙ i) waits)
     ];
     logged = says;
@@ -176,10 +155,7 @@ module _ {E : Type 0} (senders : ℕ → Option (Core E)) (frames : List Frame) 
 
 -- a batch in which a mark is let wait that its action asks for
 pub one_waits : (k m : Mark) → Marking k ≡ Marking m → Asked m (HasMarked k ∷ [])
-one_waits k m e = (0, ap (λ z. Some (HasMarked z)) (same_waiting k m e))
-  where
-    same_waiting : (k m : Mark) → Marking k ≡ Marking m → k ≡ m
-    same_waiting k m e = cc
+one_waits k m e = grind (arith, common_steps)
 
 -- on lists
 pub askings_after :

@@ -1,21 +1,20 @@
 -- Words of zero, the page at home and senders at their starts keep what senders, words, page and
 -- owners keep.
-use Rattle.std.proofs.Common.{◌≡◌, ℕ, zero, suc, ◌<◌, true, false, Option, Some, None, inl, inr}
-use Rattle.std.proofs.Common.{List, [], replicate, slice_get, slice_index, arith, refl, sym, ◌∙◌}
-use Rattle.std.proofs.Common.{ap, subst}
+use Rattle.std.proofs.Common.{◌≡◌, ℕ, zero, suc, ◌<◌, true, false, Option, Some, None, List, []}
+use Rattle.std.proofs.Common.{replicate, slice_get, slice_index, arith, refl, sym, ◌∙◌, ap, subst}
 use Rattle.std.proofs.lemmas.Bool.{cases_lt, false≢true}
 use Rattle.std.proofs.lemmas.List.{get_or-replicate, get_or_past, length-replicate}
 use Rattle.std.proofs.lemmas.List.Elements.{All-from_recursion}
 use Rattle.std.proofs.lemmas.Option.{same_Some}
+use Rattle.std.proofs.lemmas.Grind.{common_steps}
 use Rattle.bus_register.specs.declared.limits.TheConstants.{MOST_SENDERS}
 use Rattle.bus_register.specs.Tables.{of_some}
 use Rattle.bus_register.specs.Private.TableLaws.{some_of}
 use Rattle.bus_register.specs.Protocol.{Protocol, Laws}
-use Rattle.bus_batch.specs.Messages.{IsMessage}
 use Rattle.bus_ownerbits.specs.OneOwner.{OneOwner}
 use Rattle.bus_tenure.specs.Core.{Core, Election, Layout, words_of}
 use Rattle.bus_world.specs.World.{IsLayout, AreBases, no_bases, first_page}
-use Rattle.bus_world.specs.Private.Sending.{Part, Sending, standing_of, stands_at, least_of, Logged}
+use Rattle.bus_world.specs.Private.Sending.{Part, Sending, standing_of, least_of}
 use Rattle.bus_world.specs.Log.{first_numbers, KeepsFloor, Knows}
 use Rattle.bus_world.specs.declared.limits.TheConstants.{FIRST_RING_NUMBERS}
 use Rattle.bus_world.specs.Private.Tenures.{Standing}
@@ -25,10 +24,7 @@ use Rattle.bus_world.proofs.BusLaws as bus
 use Rattle.bus_world.proofs.TenuresLaws as tenures
 
 pub zeros : (n r : ℕ) → slice_index (replicate n 0) r ≡ 0
-zeros n r = elim (cases_lt r n) [
-  | inl l ↦ get_or-replicate n r 0 0 l
-  | inr g ↦ get_or_past (replicate n 0) r 0 (omega (arith, length-replicate {A = ℕ} n 0))
-]
+zeros n r = grind (arith, cases_lt, get_or-replicate, get_or_past, replicate, length-replicate)
 
 pub words_zero : {E : Type 0} {bases : List ℕ} {x : Layout} (b : Bus E) → IsNew bases x b → (r : ℕ)
     → slice_index b.side.words r ≡ 0
@@ -50,11 +46,7 @@ flat_low x bases flat are s =
 pub bases_low : (x : Layout) (bases : List ℕ) → AreBases bases
     → (0 < x.passers → (s : ℕ) → slice_index bases s < FIRST_RING_NUMBERS)
     → (s : ℕ) → slice_index bases s < first_numbers x.passers
-bases_low x bases are ring s = by x.passers refl
-  where
-    by : (n : ℕ) → x.passers ≡ n → slice_index bases s < first_numbers n
-    by zero flat = are.low s
-    by (suc n) some = ring (omega arith) s
+bases_low x bases are ring s = grind (arith, common_steps, slice_index, zero, suc)
 
 module _ {E : Type 0} (X : Election E) (P : Protocol E (Unit {0}) ℕ)
     (laws : Laws X.op X.fed P OneOwner) (x : Layout) (ok : IsLayout x) (bases : List ℕ)
@@ -63,32 +55,14 @@ module _ {E : Type 0} (X : Election E) (P : Protocol E (Unit {0}) ℕ)
     (new : (p : ℕ) (c : Core E) → senders p ≡ Some c
     → (p < x.senders) × (c ≡ new_core x (slice_index bases p) p)) where
   new_standing : (p : ℕ) (s : Standing E) → of_some standing_of (senders p) ≡ Some s → s ≡ Rests
-  new_standing p s e =
-      let o = some_of standing_of (senders p) s e in
-      sym (same_Some _ _ o.2) ∙ ap (λ (z : Core E). stands_at z.phase) (new p o.0 o.1).1
+  new_standing p s e = grind (arith, common_steps, some_of, same_Some)
 
   new_least : (p : ℕ) (o : Option (Core E)) → senders p ≡ o → least_of o ≡ 0
   new_least p None e = refl
   new_least p (Some c) e = ap (λ (z : Core E). z.least) (new p c e).1
 
   new_part : (p : ℕ) (c : Core E) → senders p ≡ Some c → Part (slice_index bases) x words [] p c
-  new_part p c e =
-      let n = new p c e in
-      let small : p < 256 = let a = n.0 in let d = ok.senders in omega arith in
-      subst (Part (slice_index bases) x words [] p) (sym n.1) record {
-        layout = refl;
-        me = refl;
-        below = n.0;
-        sender = refl;
-        queue = record {
-          few = omega arith;
-          each = All-from_recursion IsMessage [] tt;
-          numbers = (let a = are.low p in omega arith);
-          alone = λ m z. refl;
-          owner_bits = omega arith;
-        };
-        fits = (refl, (omega arith, λ gone. absurd (false≢true gone)));
-      }
+  new_part p c e = grind (arith, slice_index, All-from_recursion, false≢true)
 
   none_left : (n s : ℕ) → s < n → slice_get (replicate n false) s ≡ Some false
   none_left zero s l = absurd (omega arith)
@@ -114,23 +88,9 @@ module _ {E : Type 0} (X : Election E) (P : Protocol E (Unit {0}) ℕ)
         (λ q. of_some standing_of (senders q)) (λ r a d. zero_at r) new_standing)
         words (words 1) true (λ q. of_some standing_of (senders q)) (λ q. least_of (senders q)) []
         (λ r a d. refl) (zero_at 1) refl (λ q. refl) (λ q. new_least q (senders q) refl) refl;
-    log = subst (λ z. Logged (slice_index bases) x words z []) (sym (zero_at 0)) record {
-      lawful = tt;
-      words_are = refl;
-      fits = λ flat. omega arith;
-      low = low;
-      counted = λ s. tt;
-    };
+    log = grind (arith, common_steps, slice_index);
     owned = tt;
-    page_knows = λ page t e d.
-        let page_is : first_page bases ≡ page = same_Some _ _ e in
-        let t_is : 0 ≡ t = let z = zero_at 1 in omega arith in (
-          subst (λ z. Knows (slice_index bases) z [] t (words 0)) page_is
-              (subst (λ z. Knows (slice_index bases) (first_page bases) [] z (words 0)) t_is
-              (subst (λ z. Knows (slice_index bases) (first_page bases) [] 0 z) (sym (zero_at 0))
-              new_knows)),
-          tt,
-        );
+    page_knows = λ page t e d. grind (arith, common_steps, same_Some, slice_index, new_knows);
     flat_home = λ flat page e. subst KeepsFloor (same_Some _ _ e) refl;
     parts = new_part;
     chosen = λ p c t e o f g out.

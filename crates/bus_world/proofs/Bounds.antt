@@ -3,6 +3,7 @@
 use Rattle.std.proofs.Common.{◌≡◌, ℕ, ◌+◌, ◌*◌, ◌^◌, ◌<◌, ◌≤◌, List, [], ◌∷◌, length, map, flat_map}
 use Rattle.std.proofs.Common.{arith, sym, subst}
 use Rattle.std.proofs.lemmas.List.{length-append}
+use Rattle.std.proofs.lemmas.Grind.{common_steps}
 use Rattle.bus_register.specs.declared.limits.TheConstants.{TENURES}
 use Rattle.bus_register.specs.declared.registers.SenderNo.{SenderNo}
 use Rattle.bus_batch.specs.Messages.{Numbered}
@@ -75,12 +76,8 @@ words_from senders least (f ∷ frames) lawful =
 
 pub items_low : (senders : ℕ) (frames : List Frame) → AreFrames senders frames
     → length (items_in (order_of frames).entries) ≤ 2 ^ 44
-items_low senders frames lawful = subst (λ z. length z ≤ 2 ^ 44) (sym (entries_are_items frames))
-    (let a = frames_few senders 0 frames (omega arith) lawful in
-    let b = items_from senders 0 frames lawful in omega arith)
+items_low senders frames lawful = grind (arith, length, entries_are_items, frames_few, items_from)
 
 pub words_low : (senders : ℕ) (frames : List Frame) → AreFrames senders frames
     → length (log_words frames) < 2 ^ 48
-words_low senders frames lawful =
-    let a = frames_few senders 0 frames (omega arith) lawful in
-    let b = words_from senders 0 frames lawful in omega arith
+words_low senders frames lawful = grind (arith, common_steps, frames_few, words_from)

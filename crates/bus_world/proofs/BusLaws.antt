@@ -4,6 +4,7 @@ use Rattle.std.proofs.Common.{inl, inr, List, [], ◌∷◌, ◌++◌, is_some, 
 use Rattle.std.proofs.Common.{◌∙◌, ap, subst}
 use Rattle.std.proofs.lemmas.Bool.{cases_eq, true≢false}
 use Rattle.std.proofs.lemmas.Option.{same_Some}
+use Rattle.std.proofs.lemmas.Grind.{common_steps}
 use Rattle.bus_register.specs.declared.registers.Op.{Op}
 use Rattle.bus_register.specs.Words.{register, after}
 use Rattle.bus_register.specs.Tables.{of_some, Beside, Stepped, put}
@@ -24,7 +25,6 @@ use Rattle.bus_world.specs.Private.Tenures.{Standing}
 use Rattle.bus_world.specs.Private.Tenures.Standing.{Runs, Holds}
 use Rattle.bus_world.proofs.TenuresLaws as tenures
 use Rattle.bus_world.specs.World.{IsLayout}
-use mathlib.Core.Path.{fun_ext}
 use Rattle.bus_world.proofs.SenderParts.{Knows-len, Part-agree, Part-rests, part_of, AreOwned-push}
 
 -- one step on the words: the step's own word has changed and no other
@@ -35,10 +35,7 @@ pub record Changes (o : Op) (words words' : ℕ → ℕ) : Type 0 where
 -- a sender that is as before, beside others that are
 pub same_senders : {E : Type 0} (p : ℕ) (c : Core E) (senders senders' : ℕ → Option (Core E))
     → senders p ≡ Some c → senders' p ≡ Some c → Beside p senders senders' → senders' ≡ senders
-same_senders p c senders senders' old new beside = fun_ext (λ q. elim (cases_eq q p) [
-  | inl i ↦ ap senders' i ∙ new ∙ sym old ∙ ap senders (sym i)
-  | inr ne ↦ beside q ne
-])
+same_senders p c senders senders' old new beside = grind (arith, common_steps, cases_eq)
 
 pub resting_apart : {E : Type 0} (t : ℕ) (e : E) → phase.Resting ≡ phase.Electing t e → ⊥
 resting_apart t e h = cc
@@ -67,9 +64,7 @@ module _ {E : Type 0} (X : Election E) (P : Protocol E (Unit {0}) ℕ)
     unstarted : (p at : ℕ) → p < x.senders → P.output (P.started x.senders p tt at) ≡ None
     unstarted p at below = elim (some_or_none (X.op (P.started x.senders p tt at) 0)) [
       | inr o ↦ laws.unended (P.started x.senders p tt at) 0 o.0 o.1
-      | inl none ↦ absurd
-          (true≢false (sym (laws.ends (P.started x.senders p tt at) 0 none).1
-          ∙ (laws.starts x.senders p at tt below (let z = ok.senders in omega arith)).fresh))
+      | inl none ↦ grind (arith, common_steps, true≢false)
     ]
 
     -- where a sender stands
@@ -103,25 +98,17 @@ module _ {E : Type 0} (X : Election E) (P : Protocol E (Unit {0}) ℕ)
       now = ap (of_some standing_of) new
 
       L-same : c'.least ≡ c.least → (q : ℕ) → L' q ≡ L q
-      L-same e q = elim (cases_eq q p) [
-        | inl i ↦ ap L' i ∙ ap least_of new ∙ e ∙ sym (ap least_of old) ∙ ap L (sym i)
-        | inr ne ↦ L-beside q ne
-      ]
+      L-same e q = grind (arith, common_steps, cases_eq, L-beside)
 
       S-same : stands_at c'.phase ≡ stands_at c.phase → (q : ℕ) → S' q ≡ S q
-      S-same e q = elim (cases_eq q p) [
-        | inl i ↦ ap S' i ∙ now ∙ ap Some e ∙ sym (ap (of_some standing_of) old) ∙ ap S (sym i)
-        | inr ne ↦ S-beside q ne
-      ]
+      S-same e q = grind (arith, common_steps, cases_eq, now, S-beside)
 
       parts_from : (words' : ℕ → ℕ) (frames' : List Frame)
           → ((q : ℕ) (d : Core E) → q ≢ p → senders q ≡ Some d → Part base x words' frames' q d)
           → Part base x words' frames' p c' → (q : ℕ) (d : Core E) → senders' q ≡ Some d
           → Part base x words' frames' q d
       parts_from words' frames' others own q d e = elim (cases_eq q p) [
-        | inl i ↦ subst (λ z. Part base x words' frames' z d) (sym i)
-            (subst (Part base x words' frames' p)
-            (same_Some _ _ (sym new ∙ ap senders' (sym i) ∙ e)) own)
+        | inl i ↦ grind (arith, common_steps, same_Some)
         | inr ne ↦ others q d ne (sym (beside q ne) ∙ e)
       ]
 
@@ -129,12 +116,7 @@ module _ {E : Type 0} (X : Election E) (P : Protocol E (Unit {0}) ℕ)
           ((t : ℕ) (e : E) (o : ℕ) → c'.phase ≡ phase.Electing t e → P.output e ≡ Some o → o ≡ p)
           → (q : ℕ) (d : Core E) (t : ℕ) (e : E) (o : ℕ) → senders' q ≡ Some d
           → d.phase ≡ phase.Electing t e → P.output e ≡ Some o → o ≡ q
-      chosen_from own q d t e o a b out = elim (cases_eq q p) [
-        | inl i ↦
-            own t e o (ap (λ z. z.phase) (same_Some _ _ (sym new ∙ ap senders' (sym i) ∙ a)) ∙ b)
-            out ∙ sym i
-        | inr ne ↦ h.chosen q d t e o (sym (beside q ne) ∙ a) b out
-      ]
+      chosen_from own q d t e o a b out = grind (arith, common_steps, cases_eq, same_Some)
 
       chosen_resting : c'.phase ≡ phase.Resting → (q : ℕ) (d : Core E) (t : ℕ) (e : E) (o : ℕ)
           → senders' q ≡ Some d → d.phase ≡ phase.Electing t e → P.output e ≡ Some o → o ≡ q
@@ -242,21 +224,13 @@ module _ {E : Type 0} (X : Election E) (P : Protocol E (Unit {0}) ℕ)
         page_knows = h.page_knows;
         flat_home = h.flat_home;
         parts = parts_from words frames (λ q d ne e. h.parts q d e) part;
-        chosen = chosen_from (λ u e o a b. absurd (
-            let e_is =
-            (same_electing t u (P.started x.senders p tt (2 + t * P.width x.senders)) e
-            (sym began ∙ a)).1 in
-            let bad : None ≡ Some o =
-            sym (unstarted p (2 + t * P.width x.senders) below) ∙ ap P.output e_is ∙ b in
-            let wrong : ⊥ = cc in wrong));
+        chosen = grind (arith, common_steps, chosen_from, same_electing, unstarted);
       }
 
       -- words of rows and words of the log are apart
       in_row : (t : ℕ) → t < x.rows → (r : ℕ) → r < 2 + t * P.width x.senders + P.width x.senders
           → r < log_at x
-      in_row t room r l =
-          let apart = row_within t x.rows (P.width x.senders) room in
-          let w = ap (λ z. x.rows * z) width in omega arith
+      in_row t room r l = grind (arith, common_steps, row_within)
 
       module _ (t : ℕ) (e : E) (word : ℕ) (o : Op) (words' : ℕ → ℕ)
           (elects : c.phase ≡ phase.Electing t e) (next : X.op e word ≡ Some o)
@@ -374,9 +348,7 @@ module _ {E : Type 0} (X : Election E) (P : Protocol E (Unit {0}) ℕ)
                     Knows-len page frames t (words 0) (words' 0) (elsewhere 0 (omega arith)) k.0;
                 earlier = k.1;
                 stored_below = omega arith;
-                flat = λ flat.
-                    h.flat_home (sym (ap (λ (z : Layout). z.passers) part.layout) ∙ flat) page
-                    at_home;
+                flat = λ flat. grind (arith, common_steps, part);
                 allowed = λ z. absurd (omega arith);
                 words_are = refl;
               },

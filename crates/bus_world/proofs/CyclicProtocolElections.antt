@@ -1,10 +1,11 @@
 -- A step of an election keeps what is always kept, and so does a sender that takes the page.
-use Rattle.std.proofs.Common.{◌≡◌, inl, inr, ℕ, ◌+◌, ◌-◌, ◌*◌, ◌<◌, ◌≤◌, Bool, true, false, cond}
-use Rattle.std.proofs.Common.{◌==◌, Option, Some, None, List, [], ◌∷◌, ◌++◌, is_some, slice_index}
-use Rattle.std.proofs.Common.{arith, refl, sym, ◌∙◌, ap, subst}
+use Rattle.std.proofs.Common.{◌≡◌, inl, inr, ℕ, ◌+◌, ◌-◌, ◌*◌, ◌<◌, ◌≤◌, Bool, false, Option, Some}
+use Rattle.std.proofs.Common.{None, List, [], ◌∷◌, ◌++◌, is_some, slice_index, arith, refl, sym}
+use Rattle.std.proofs.Common.{◌∙◌, ap, subst}
 use Rattle.std.proofs.lemmas.Bool.{cases_eq, true≢false}
 use Rattle.std.proofs.lemmas.Bool.Decides.{eqb_tells}
 use Rattle.std.proofs.lemmas.Option.{same_Some}
+use Rattle.std.proofs.lemmas.Grind.{common_steps}
 use Rattle.bus_register.specs.declared.kinds.Kind.TheVariants as kind
 use Rattle.bus_register.specs.declared.registers.Op.{Op}
 use Rattle.bus_register.specs.declared.registers.Op.TheVariants.{Store}
@@ -61,33 +62,12 @@ electing_no_holding t e u page k b h = cc
 elected_holds : {E : Type 0} (c : Core E) (t : ℕ) (e : E) (own : Option ℕ) (u : ℕ) (page : Page)
     (k : ℕ) (b : Bool) → (core_elected c t e own).phase ≡ phase.Holding u page k b → ⊥
 elected_holds c t e None u page k b i = electing_no_holding t e u page k b i
-elected_holds c t e (Some o) u page k b i = by (o == c.me) i where
-  by : (same : Bool)
-      → (cond same (record c { phase = phase.Electing t e }) (record c {
-        queue = record c.queue { busy = false };
-        least = t + 1;
-        phase = phase.Resting;
-      })).phase ≡ phase.Holding u page k b → ⊥
-  by true i = electing_no_holding t e u page k b i
-  by false i = resting_no_holding u page k b i
+elected_holds c t e (Some o) u page k b i =
+    grind (arith, common_steps, electing_no_holding, resting_no_holding)
 
 -- a tenure whose next row was not used needs no reclamation
 no_reclaimer : (x : ReclamationSizes) (t : ℕ) → reclaimer_after x t ≡ None → t + 1 < x.rows
-no_reclaimer x t = elim (lt_tells (t + 1) x.rows) [
-  | inl l ↦ λ e. l.1
-  | inr m ↦ λ e. absurd (let bad =
-      sym
-      (ap (λ z. cond z None (Some record {
-        past = t + 1 - x.rows;
-        senders = x.senders;
-        presences = presence_at x 0;
-        row = row_of x (t + 1);
-        width = x.width;
-        scanned = 0;
-        cleared = 0;
-      })) m.0) ∙ e in
-      cc)
-]
+no_reclaimer x t = grind (arith, common_steps, lt_tells)
 
 module _ {E : Type 0} (X : Election E) (P : Protocol E (Unit {0}) ℕ)
     (laws : Laws X.op X.fed P OneOwner) (x : Layout) (ok : IsLayout x)
@@ -290,24 +270,7 @@ module _ {E : Type 0} (X : Election E) (P : Protocol E (Unit {0}) ℕ)
           by_owner : (owner : Option ℕ) → X.owner later ≡ owner
               → HasKept H (done (pin_elected c t (X.owner later))) T done_actions L
           by_owner None i = stays (ap (pin_elected c t) i) (ap (core_elected c t later) i)
-          by_owner (Some u) i = elim (eqb_tells u c.me) [
-            | inl own ↦
-                stays (ap (pin_elected c t) i ∙ ap (λ b. cond b (Pinned t) (Unpinning t)) own.0)
-                (ap (core_elected c t later) i
-                ∙ ap (λ b. cond b (record c { phase = phase.Electing t later }) (record c {
-                  queue = record c.queue { busy = false };
-                  least = t + 1;
-                  phase = phase.Resting;
-                })) own.0)
-            | inr other ↦
-                parts (ap (pin_elected c t) i ∙ ap (λ b. cond b (Pinned t) (Unpinning t)) other.0)
-                (ap (λ (d : Core E). d.phase) (ap (core_elected c t later) i
-                ∙ ap (λ b. cond b (record c { phase = phase.Electing t later }) (record c {
-                  queue = record c.queue { busy = false };
-                  least = t + 1;
-                  phase = phase.Resting;
-                })) other.0))
-          ]
+          by_owner (Some u) i = grind (arith, common_steps, eqb_tells, stays, parts)
 
         abbrev elected : Option Op → CyclicProtocol E
         elected d =
@@ -429,31 +392,12 @@ module _ {E : Type 0} (X : Election E) (P : Protocol E (Unit {0}) ℕ)
                   ];
                   written = λ q v pg st d at is. elim (cases_eq q p) [
                     | inl i ↦
-                        let own_phase : phase.Holding t page.0 0 false
-                        ≡ phase.Holding v pg st true =
-                        sym (ap (λ (w : Core E). w.phase) held)
-                        ∙ ap (λ (w : Core E). w.phase)
-                        (same_Some _ _ (sym (put_here p (Some taker) y.senders)
-                        ∙ ap (put p (Some taker) y.senders) (sym i) ∙ at)) ∙ is in
-                        absurd
-                        (true≢false (sym (stored_is t page.0 0 false v pg st true own_phase).1))
-                    | inr ne ↦
-                        k.stored.written q v pg st d
-                        (sym (put_beside p (Some taker) y.senders q ne) ∙ at) is
-                        ∙ sym (put_beside 1 (2 * t + 1) V 0 (λ i. omega arith))
+                        grind (arith, common_steps, same_Some, put_here, true≢false, stored_is)
+                    | inr ne ↦ grind (arith, common_steps, put_beside)
                   ];
                   floor_home = λ pg there. absurd cc;
                   floor_held = λ q v pg st b d at is. elim (cases_eq q p) [
-                    | inl i ↦
-                        let own_phase : phase.Holding t page.0 0 false
-                        ≡ phase.Holding v pg st b =
-                        sym (ap (λ (w : Core E). w.phase) held)
-                        ∙ ap (λ (w : Core E). w.phase)
-                        (same_Some _ _ (sym (put_here p (Some taker) y.senders)
-                        ∙ ap (put p (Some taker) y.senders) (sym i) ∙ at)) ∙ is in
-                        ap (λ (w : Page). w.floor)
-                        (sym (held_page_is t page.0 0 false v pg st b own_phase))
-                        ∙ k.stored.floor_home page.0 page.1
+                    | inl i ↦ grind (arith, common_steps, same_Some, put_here, held_page_is)
                     | inr ne ↦ k.stored.floor_held q v pg st b d
                         (sym (put_beside p (Some taker) y.senders q ne) ∙ at) is
                   ];
@@ -466,8 +410,6 @@ module _ {E : Type 0} (X : Election E) (P : Protocol E (Unit {0}) ℕ)
                       (sym (ap (λ (d : Core E). d.phase) held) ∙ i));
                   announcing = λ v i. absurd (elim i [ inl a ↦ cc | inr a ↦ cc ]);
                 };
-                ready = λ v is none.
-                    let l = no_reclaimer z t none in
-                    let now = put_here 1 (2 * t + 1) y.reclamation.words in omega arith;
+                ready = λ v is none. grind (arith, common_steps, no_reclaimer, put_here);
               };
             }

@@ -5,9 +5,10 @@ use Rattle.std.proofs.Common.{false, cond, nat_lt, nat_le, Option, Some, None, L
 use Rattle.std.proofs.Common.{is_some, slice_get, slice_index, arith, refl, sym, ◌∙◌, ap, subst}
 use Rattle.std.proofs.lemmas.Bool.{cases_eq, cases_lt, ltb-false, true≢false, and_from, le-leb}
 use Rattle.std.proofs.lemmas.Option.{same_Some}
+use Rattle.std.proofs.lemmas.Grind.{common_steps}
 use Rattle.bus_register.specs.declared.kinds.Kind.TheVariants as kind
 use Rattle.bus_register.specs.declared.registers.Op.{Op}
-use Rattle.bus_register.specs.declared.registers.Op.TheVariants.{Load, Store}
+use Rattle.bus_register.specs.declared.registers.Op.TheVariants.{Store}
 use Rattle.bus_register.specs.Tables.{Agree, put, of_some}
 use Rattle.bus_register.specs.Private.TableLaws.{put_here, put_beside}
 use Rattle.bus_register.specs.Protocol.{Protocol, Laws}
@@ -117,33 +118,14 @@ module _ {E : Type 0} (t : ℕ) (page : Page) (stored : ℕ) where
       → c.phase ≡ phase.Holding t page stored published → (reason : Reason)
       → cond published (GivesBack t page Sent) (held_as ended room more) ≡ GivesBack t page reason
       → waiting_of (Some (core_at_rest c reason t)) ≡ waiting_of (Some c)
-  gives_waits c true ended room more holds reason h = subst
-      (λ r. waiting_of (Some (core_at_rest c r t)) ≡ waiting_of (Some c)) (sent_is reason h)
-      (sym (ap (waiting_at c) holds))
+  gives_waits c true ended room more holds reason h = cc
   gives_waits c false ended room more holds Sent h = absurd (never_sent ended room more h)
   gives_waits c false ended room more holds FoundEnd h = sym (ap (waiting_at c) holds)
   gives_waits c false ended room more holds NoRoom h = sym (ap (waiting_at c) holds)
 
 -- a reclaimed row is ready
 reclaimed_is : (s : Reclaiming) → reclaim_op s ≡ None → is_reclaimed s ≡ true
-reclaimed_is s = elim (lt_tells s.scanned s.senders) [
-  | inl a ↦ λ none. absurd (let bad =
-      sym
-      (ap (λ y. cond y (Some (Load record { 0 = s.presences + s.scanned }))
-      (cond (nat_lt s.cleared s.width) (Some (Store record { 0 = s.row + s.cleared } 0)) None)) a.0)
-      ∙ none in
-      cc)
-  | inr a ↦ elim (lt_tells s.cleared s.width) [
-    | inl b ↦ λ none. absurd
-        (let bad = sym (ap (λ y. cond y (Some (Store record { 0 = s.row + s.cleared } 0)) None) b.0)
-        ∙ sym
-        (ap (λ y. cond y (Some (Load record { 0 = s.presences + s.scanned }))
-        (cond (nat_lt s.cleared s.width) (Some (Store record { 0 = s.row + s.cleared } 0)) None))
-        a.0) ∙ none in cc)
-    | inr b ↦ λ none. and_from (nat_le s.senders s.scanned) (nat_le s.width s.cleared)
-        (le-leb s.senders s.scanned a.1) (le-leb s.width s.cleared b.1)
-  ]
-]
+reclaimed_is s = grind (arith, common_steps, lt_tells, nat_lt, and_from, nat_le, le-leb)
 
 module _ {E : Type 0} (X : Election E) (P : Protocol E (Unit {0}) ℕ)
     (laws : Laws X.op X.fed P OneOwner) (x : Layout) (ok : IsLayout x)
@@ -254,10 +236,7 @@ module _ {E : Type 0} (X : Election E) (P : Protocol E (Unit {0}) ℕ)
         -- a word outside of all rows
         beside_rows : (r n : ℕ) → (r < 2) ⊎ (log_at x ≤ r)
             → Agree 2 (x.rows * P.width x.senders) V (put r n V)
-        beside_rows r n out q a b = put_beside r n V q
-            (λ i.
-            let w = ap (λ y. x.rows * y) width in
-            elim out [ inl l ↦ omega arith | inr l ↦ omega arith ])
+        beside_rows r n out q a b = grind (arith, common_steps, put_beside)
 
         pins_same : pins_on ≡ y.reclamation.pins
         pins_same = put_is p (y.reclamation.pins p) y.reclamation.pins refl
@@ -324,17 +303,8 @@ module _ {E : Type 0} (X : Election E) (P : Protocol E (Unit {0}) ℕ)
             → (q v : ℕ) (pg : Page) (st : ℕ) (b : Bool) (d : Core E)
             → put p (Some c') y.senders q ≡ Some d → d.phase ≡ phase.Holding v pg st b
             → pg.floor ≡ k.floor
-        held_on c' k' b' now q v pg st b d at is = elim (cases_eq q p) [
-          | inl i ↦
-              let own_phase : phase.Holding t page k' b' ≡ phase.Holding v pg st b =
-              sym now
-              ∙ ap (λ (w : Core E). w.phase) (same_Some _ _ (sym (put_here p (Some c') y.senders)
-              ∙ ap (put p (Some c') y.senders) (sym i) ∙ at)) ∙ is in
-              ap (λ (w : Page). w.floor) (sym (held_page_is t page k' b' v pg st b own_phase))
-              ∙ k.stored.floor_held p t page stored published c old holds
-          | inr ne ↦ k.stored.floor_held q v pg st b d
-              (sym (put_beside p (Some c') y.senders q ne) ∙ at) is
-        ]
+        held_on c' k' b' now q v pg st b d at is =
+            grind (arith, common_steps, cases_eq, same_Some, put_here, held_page_is, put_beside)
 
         -- it stores a word of its frame
         module _ (unpublished : published ≡ false)
@@ -357,11 +327,7 @@ module _ {E : Type 0} (X : Election E) (P : Protocol E (Unit {0}) ℕ)
 
           -- the next word is stored
           next_is : k.W ≡ page.words + stored
-          next_is =
-              let a = stored_now unpublished in
-              let knows = (writing_now unpublished).page_knows in
-              let b = knows.words in
-              omega arith
+          next_is = grind (arith, common_steps, stored_now, writing_now)
 
           cell_is : k.W % x.capacity ≡ spot
           cell_is =
@@ -406,14 +372,7 @@ module _ {E : Type 0} (X : Election E) (P : Protocol E (Unit {0}) ℕ)
                   (sym (put_beside p (Some writer) y.senders q ne) ∙ at) is))
             ];
             written = λ q v pg st d at is. elim (cases_eq q p) [
-              | inl i ↦
-                  let own_phase : phase.Holding t page (stored + 1) false
-                  ≡ phase.Holding v pg st true =
-                  ap (λ (w : Core E). w.phase) (same_Some _ _
-                  (sym (put_here p (Some writer) y.senders)
-                  ∙ ap (put p (Some writer) y.senders) (sym i) ∙ at)) ∙ is in
-                  absurd
-                  (true≢false (sym (stored_is t page (stored + 1) false v pg st true own_phase).1))
+              | inl i ↦ grind (arith, common_steps, same_Some, put_here, true≢false, stored_is)
               | inr ne ↦ absurd
                   (ne (alone q v pg st true d (sym (put_beside p (Some writer) y.senders q ne) ∙ at)
                   is))
@@ -459,10 +418,7 @@ module _ {E : Type 0} (X : Election E) (P : Protocol E (Unit {0}) ℕ)
               log_is = k.log_is;
               W = k.W + 1;
               floor = k.floor;
-              floors = floors_same (put (log_from x rows + spot) number y.reclamation.words)
-                  (put (log_at x + k.W) number V) same_first
-                  (λ r l. put_beside (log_from x rows + spot) number y.reclamation.words
-                  (passed_place x rows r) (λ i. omega arith));
+              floors = grind (arith, common_steps, same_first, put_beside);
               stored = stored_one;
               laid = subst (λ n. Laid x rows (record {
                 words = put (log_from x rows + n) number y.reclamation.words;
@@ -554,12 +510,7 @@ module _ {E : Type 0} (X : Election E) (P : Protocol E (Unit {0}) ℕ)
                   home = λ there. absurd (not_home there);
                   writing = λ q v pg st d here is. elim (cases_eq q p) [
                     | inl i ↦
-                        let own_phase : phase.Holding t page stored true
-                        ≡ phase.Holding v pg st false =
-                        ap (λ (w : Core E). w.phase)
-                        (same_Some _ _ (sym (put_here p (Some c') y.senders)
-                        ∙ ap (put p (Some c') y.senders) (sym i) ∙ here)) ∙ is in
-                        absurd (true≢false (stored_is t page stored true v pg st false own_phase).1)
+                        grind (arith, common_steps, same_Some, put_here, true≢false, stored_is)
                     | inr ne ↦ absurd
                         (ne (alone q v pg st false d
                         (sym (put_beside p (Some c') y.senders q ne) ∙ here) is))
@@ -620,27 +571,19 @@ module _ {E : Type 0} (X : Election E) (P : Protocol E (Unit {0}) ℕ)
                 log_is = k.log_is;
                 W = k.W;
                 floor = k.floor;
-                floors = floors_same (put 1 (2 * t + 2) y.reclamation.words) (put 1 (2 * t + 2) V)
-                    same_first (λ r l. put_beside 1 (2 * t + 2) y.reclamation.words
-                    (passed_place x rows r) (λ i. omega arith));
+                floors = grind (arith, common_steps, put_beside);
                 stored = record {
                   few = k.stored.few;
                   low = subst (λ n. n ≤ k.W) (sym same_first) k.stored.low;
                   home = λ there. none_ahead published refl ∙ sym same_first;
                   writing = λ q v pg st d here is. elim (cases_eq q p) [
-                    | inl i ↦ absurd (resting_no_holding v pg st false
-                        (ap (λ (w : Core E). w.phase)
-                        (same_Some _ _ (sym (put_here p (Some c') y.senders)
-                        ∙ ap (put p (Some c') y.senders) (sym i) ∙ here)) ∙ is))
+                    | inl i ↦ grind (arith, common_steps, resting_no_holding, same_Some, put_here)
                     | inr ne ↦ absurd
                         (ne (alone q v pg st false d
                         (sym (put_beside p (Some c') y.senders q ne) ∙ here) is))
                   ];
                   written = λ q v pg st d here is. elim (cases_eq q p) [
-                    | inl i ↦ absurd (resting_no_holding v pg st true
-                        (ap (λ (w : Core E). w.phase)
-                        (same_Some _ _ (sym (put_here p (Some c') y.senders)
-                        ∙ ap (put p (Some c') y.senders) (sym i) ∙ here)) ∙ is))
+                    | inl i ↦ grind (arith, common_steps, resting_no_holding, same_Some, put_here)
                     | inr ne ↦ absurd
                         (ne (alone q v pg st true d
                         (sym (put_beside p (Some c') y.senders q ne) ∙ here) is))
@@ -650,10 +593,7 @@ module _ {E : Type 0} (X : Election E) (P : Protocol E (Unit {0}) ℕ)
                       ∙ floor_after c t page reason
                       ∙ k.stored.floor_held p t page stored published c old holds;
                   floor_held = λ q v pg st b d here is. elim (cases_eq q p) [
-                    | inl i ↦ absurd (resting_no_holding v pg st b
-                        (ap (λ (w : Core E). w.phase)
-                        (same_Some _ _ (sym (put_here p (Some c') y.senders)
-                        ∙ ap (put p (Some c') y.senders) (sym i) ∙ here)) ∙ is))
+                    | inl i ↦ grind (arith, common_steps, resting_no_holding, same_Some, put_here)
                     | inr ne ↦ absurd
                         (ne (alone q v pg st b d
                         (sym (put_beside p (Some c') y.senders q ne) ∙ here) is))
@@ -675,20 +615,8 @@ module _ {E : Type 0} (X : Election E) (P : Protocol E (Unit {0}) ℕ)
             none_ahead : (b : Bool) → published ≡ b → k.W ≡ V 0
             none_ahead true is =
                 k.stored.written p t page stored c old (holds ∙ ap (phase.Holding t page stored) is)
-            none_ahead false is = elim (cases_lt 0 stored) [
-              | inl some ↦
-                  let allowed = (writing_now is).allowed some in
-                  let room : has_room c page ≡ true =
-                  le-leb (page.words + frame_len c) (c.layout.capacity + page.floor)
-                  (let a = allowed.1 in omega arith) in
-                  absurd (gives_none t page stored reason page.ended (has_room c page)
-                  (nat_lt stored (frame_len c)) allowed.0 room
-                  (sym
-                  (ap (λ b. cond b (GivesBack t page Sent)
-                  (held_as t page stored page.ended (has_room c page)
-                  (nat_lt stored (frame_len c)))) is) ∙ sym (ap (situation_at X c) holds) ∙ at))
-              | inr none ↦ (let a = stored_now is in omega arith)
-            ]
+            none_ahead false is =
+                grind (arith, cases_lt, writing_now, le-leb, gives_none, nat_lt, stored_now)
 
             by_reclaimer : (s : Option Reclaiming) → y.reclamation.reclaimer ≡ s → IsReady z t s
             by_reclaimer None e = k.ready t stage_held e

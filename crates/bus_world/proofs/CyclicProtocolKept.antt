@@ -5,6 +5,7 @@ use Rattle.std.proofs.Common.{Option, Some, None, List, is_some, slice_index, ar
 use Rattle.std.proofs.Common.{◌∙◌, ap, subst}
 use Rattle.std.proofs.lemmas.Bool.{cases_eq}
 use Rattle.std.proofs.lemmas.Option.{same_Some}
+use Rattle.std.proofs.lemmas.Grind.{common_steps}
 use Rattle.bus_register.specs.declared.kinds.Kind.TheVariants as kind
 use Rattle.bus_register.specs.declared.registers.Op.{Op}
 use Rattle.bus_register.specs.Words.{register, after}
@@ -166,35 +167,7 @@ module _ {E : Type 0} (X : Election E) (P : Protocol E (Unit {0}) ℕ)
     stored_over : (V' : ℕ → ℕ) → V' 0 ≡ V 0 → (senders' : ℕ → Option (Core E))
         → Beside p y.senders senders' → (c' : Core E) → senders' p ≡ Some c' → HoldsAs c'
         → AreStored y.home senders' V' k.W k.floor
-    stored_over V' same senders' beside c' new holds = record {
-      few = k.stored.few;
-      low = subst (λ n. n ≤ k.W) (sym same) k.stored.low;
-      home = λ there. k.stored.home there ∙ sym same;
-      writing = λ q t page stored d at is. elim (cases_eq q p) [
-        | inl e ↦
-            k.stored.writing p t page stored c old
-            (holds t page stored false (ap (λ (w : Core E). w.phase)
-            (same_Some _ _ (sym new ∙ ap senders' (sym e) ∙ at)) ∙ is))
-            ∙ ap (λ n. n + stored) (sym same)
-        | inr ne ↦
-            k.stored.writing q t page stored d (sym (beside q ne) ∙ at) is
-            ∙ ap (λ n. n + stored) (sym same)
-      ];
-      written = λ q t page stored d at is. elim (cases_eq q p) [
-        | inl e ↦
-            k.stored.written p t page stored c old
-            (holds t page stored true (ap (λ (w : Core E). w.phase)
-            (same_Some _ _ (sym new ∙ ap senders' (sym e) ∙ at)) ∙ is)) ∙ sym same
-        | inr ne ↦ k.stored.written q t page stored d (sym (beside q ne) ∙ at) is ∙ sym same
-      ];
-      floor_home = k.stored.floor_home;
-      floor_held = λ q t page stored b d at is. elim (cases_eq q p) [
-        | inl e ↦ k.stored.floor_held p t page stored b c old (holds t page stored b
-            (ap (λ (w : Core E). w.phase) (same_Some _ _ (sym new ∙ ap senders' (sym e) ∙ at))
-            ∙ is))
-        | inr ne ↦ k.stored.floor_held q t page stored b d (sym (beside q ne) ∙ at) is
-      ];
-    }
+    stored_over V' same senders' beside c' new holds = grind (arith, cases_eq, same_Some)
 
     stored_put : (V' : ℕ → ℕ) → V' 0 ≡ V 0 → (c' : Core E) → HoldsAs c'
         → AreStored y.home (put p (Some c') y.senders) V' k.W k.floor
@@ -219,10 +192,7 @@ module _ {E : Type 0} (X : Election E) (P : Protocol E (Unit {0}) ℕ)
     participants_on : (v : Pin) (c' : Core E) → IsParticipant v c' → (q : ℕ) (d : Core E)
         → put p (Some c') y.senders q ≡ Some d → IsParticipant (put p v y.reclamation.pins q) d
     participants_on v c' own q d e = elim (cases_eq q p) [
-      | inl i ↦ subst (λ w. IsParticipant w d)
-          (sym (ap (put p v y.reclamation.pins) i ∙ put_here p v y.reclamation.pins))
-          (subst (IsParticipant v) (same_Some _ _
-          (sym (ap (put p (Some c') y.senders) i ∙ put_here p (Some c') y.senders) ∙ e)) own)
+      | inl i ↦ grind (arith, common_steps, put_here, same_Some)
       | inr ne ↦ subst (λ w. IsParticipant w d) (sym (put_beside p v y.reclamation.pins q ne))
           (k.participants q d (sym (put_beside p (Some c') y.senders q ne) ∙ e))
     ]
@@ -265,10 +235,7 @@ module _ {E : Type 0} (X : Election E) (P : Protocol E (Unit {0}) ℕ)
     -- a step on the words with a row for each tenure
     changes_put : (o : Op) (r n : ℕ) → register o ≡ r → n ≡ after o (V (register o))
         → bus.Changes o V (put r n V)
-    changes_put o r n e same = record {
-      here = ap (put r n V) e ∙ put_here r n V ∙ same;
-      elsewhere = λ q ne. put_beside r n V q (λ i. ne (i ∙ sym e));
-    }
+    changes_put o r n e same = grind (arith, common_steps, put_here, put_beside)
 
     -- what of this the files of its steps open
     pub record TurnFacts : Type 0 where

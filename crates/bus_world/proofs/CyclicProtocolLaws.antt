@@ -23,8 +23,8 @@ use Rattle.bus_presence.specs.declared.pins.Pin.{Pin}
 use Rattle.bus_presence.specs.declared.pins.Pin.TheVariants.{Away, Pinned}
 use Rattle.bus_presence.specs.Pins.{step_at}
 use Rattle.bus_presence.specs.Reclaimers.{Reclaiming, reclaim_op}
-use Rattle.bus_presence.specs.Reclamation.{ReclamationSizes, Reclamation, Trails, no_trails}
-use Rattle.bus_presence.specs.Reclamation.{presence_at, row_of, Reached, New}
+use Rattle.bus_presence.specs.Reclamation.{ReclamationSizes, Trails, no_trails, presence_at, row_of}
+use Rattle.bus_presence.specs.Reclamation.{Reached, New}
 use Rattle.bus_presence.proofs.ReclaimerLaws.{keeps}
 use Rattle.bus_presence.proofs.ReclamationLaws.{safe}
 use Rattle.bus_tenure.specs.Core.{Core, Election, Layout, row_at, log_at, frame_len, has_room}
@@ -69,7 +69,8 @@ use Rattle.bus_world.specs.Floors.{AreFloors}
 use Rattle.bus_world.proofs.FrameOwners.{owner_took, rise}
 use Rattle.bus_world.proofs.Framing.{framed, entry_of, has_left, gone_for_good, last_frame}
 use Rattle.std.proofs.lemmas.List.{append-nil, map-append}
-use Rattle.bus_world.proofs.Tying.{Tables, PageTies}
+use Rattle.std.proofs.lemmas.Grind.{common_steps}
+use Rattle.bus_world.proofs.Tying.{Tables}
 use Rattle.bus_world.proofs.TableTrails.{IsPlain, plain_none, plain_put, plain_mark}
 use Rattle.bus_world.proofs.TurnTrails.{TiesOf, batch_tied}
 use Rattle.bus_world.specs.Private.KeptProtocols.{IsKeptProtocol}
@@ -81,7 +82,7 @@ use Rattle.bus_world.proofs.CyclicProtocolHears.{all_new, turn_hears, one_hears,
 use Rattle.bus_world.proofs.CyclicProtocolHears.{told_in}
 use Rattle.bus_world.proofs.CyclicProtocolNotes.{sent_by, IsNoted, noted_put, noted_mark}
 use Rattle.bus_world.proofs.CyclicProtocolNotes.{nothing_put}
-use Rattle.bus_world.proofs.RingWords.{Laid, found_there, found_straight}
+use Rattle.bus_world.proofs.RingWords.{found_there, found_straight}
 use Rattle.bus_world.proofs.LogLaws.{length-logged, index-read}
 use Rattle.bus_world.proofs.ReceiverSteps.{found_length, found_word}
 use Rattle.bus_world.proofs.Places.{none_in}
@@ -183,9 +184,7 @@ module _ {E : Type 0} (X : Election E) (P : Protocol E (Unit {0}) ℕ)
           gives_kept X P laws x ok width starts owner_is named announces apart rows two H y T D L V
           frames k p c old word answer free t page f.0 f.1 f.2 reason at
           (protocol_reclaimed t page reason refl)
-      goes_kept (HasHanded t reason) at protocol_reclaimed = absurd
-          (subst (Fits (slice_index y.bases) V frames c) (tells X c (HasHanded t reason) at)
-          part.fits)
+      goes_kept (HasHanded t reason) at protocol_reclaimed = grind (arith, slice_index, tells)
 
     -- ---- any turn
     abbrev KeptDue : ℕ → Answered → Due E → Type 0
@@ -415,59 +414,12 @@ module _ {E : Type 0} (X : Election E) (P : Protocol E (Unit {0}) ℕ)
           (sym new.reclamation)
           (floors_new x rows (λ r. 0) (λ r. refl) y.receivers (λ r v e.
           let n = new.receivers r v e in (n.passed_is, new.many r v e, n.unpassed, n.stays))));
-      stored = record {
-        few = omega arith;
-        low = omega arith;
-        home = λ there. refl;
-        writing = λ q t page stored d at is. absurd
-            (resting_no_holding t page stored false
-            (sym (ap (λ (w : Core E). w.phase) (new.senders q d at).1) ∙ is));
-        written = λ q t page stored d at is. absurd
-            (resting_no_holding t page stored true
-            (sym (ap (λ (w : Core E). w.phase) (new.senders q d at).1) ∙ is));
-        floor_home = λ page e.
-            ap (λ (w : Page). w.floor) (sym (same_Some _ _ (sym new.home ∙ e)));
-        floor_held = λ q t page stored b d at is. absurd
-            (resting_no_holding t page stored b
-            (sym (ap (λ (w : Core E). w.phase) (new.senders q d at).1) ∙ is));
-      };
-      laid = subst (λ w. Laid x rows w (λ r. 0) 0) (sym new.reclamation) record {
-        length = refl;
-        stage = refl;
-        log = λ j low last. refl;
-        row = λ t j room low live. refl;
-        late = λ t j late room low. refl;
-      };
-      ties = record {
-        tables = start_tables y new;
-        takers = subst (λ w. PageTies w no_actions) (sym new.owners) record {
-          took = λ t s e. absurd (none_in t s e);
-          elected = λ t s e. absurd (none_in t s e);
-          only = λ t s i a. absurd (none_in i _ a.at);
-          once = λ t s i j a b. absurd (none_in i _ a.at);
-        };
-      };
-      notes = record {
-        put = λ s. nothing_waits (y.senders s)
-            (λ c i. ap (λ (d : Core E). waiting_of (Some d)) (new.senders s c i).1);
-        counted = λ s place number bytes e. absurd (none_in place _ e);
-        askings = record {
-          waiting = λ q c m i waits. absurd (open_no_marking m
-              (sym (ap (λ (d : Core E). d.queue.phase) (new.senders q c i).1) ∙ waits));
-          logged = λ j f m at says. absurd (none_in j f at);
-        };
-      };
-      participants = λ p c e.
-          let s = new.senders p c e in
-          subst (λ w. IsParticipant (w.pins p) c) (sym new.reclamation)
-          (subst (IsParticipant Away) (sym s.1) record {
-            pinned = λ t j. absurd cc;
-            electing = λ t u j. absurd (bus.resting_apart t u j);
-            announcing = λ t j. absurd (elim j [ inl b ↦ cc | inr b ↦ cc ]);
-          });
-      ready = λ t held none. absurd (let bad : 0 ≡ 2 * t + 1 =
-          ap (λ (w : Reclamation). w.words 1) (sym new.reclamation) ∙ held in
-          omega arith);
+      stored = grind (arith, common_steps, resting_no_holding, same_Some);
+      laid = grind (arith, common_steps, length);
+      ties = grind (arith, common_steps, start_tables, none_in);
+      notes = grind (arith, common_steps, nothing_waits, waiting_of, none_in, open_no_marking);
+      participants = λ p c e. grind (arith, common_steps, bus.resting_apart);
+      ready = λ t held none. grind (arith, common_steps);
     };
   }
 
@@ -579,26 +531,11 @@ module _ {E : Type 0} (X : Election E) (P : Protocol E (Unit {0}) ℕ)
               above_it (row_of z t) (register o - row_at x t) x.width
               (let l = b.1 in let m = b.2 in omega arith);
           takers = record { took = takers.took; only = takers.only };
-          spelled = record {
-            frames = k.frames;
-            lawful = lawful;
-            words_are = h.log_is;
-            order_is = refl;
-            owners_are = refl;
-          };
-          ring = record {
-            long = h.laid.length ∙ sym (length-logged h.sending.log) ∙ ap length h.log_is;
-            low = let a = h.floors.low in let b = long in omega arith;
-            none = h.floors.none;
-            stands = stands;
-            behind = h.floors.behind;
-            edges = h.floors.edges;
-          };
+          spelled = grind (arith, common_steps);
+          ring = grind (arith, common_steps, length-logged, length);
           floor_home = h.stored.floor_home;
           floor_held = h.stored.floor_held;
-          waits = λ r v at stays.
-              let its = h.floors.each r v at in
-              let behind = its.behind stays in let past = its.past in omega arith;
+          waits = λ r v at stays. grind (arith, common_steps);
           finds = λ r v at stays.
               let its = h.floors.each r v at in
               let hears = h.hears.each r v at in (
@@ -627,9 +564,7 @@ module _ {E : Type 0} (X : Election E) (P : Protocol E (Unit {0}) ℕ)
               let behind = (h.floors.each r v at).behind stays in
               let words = (h.hears.each r v at).own.log_words in
               let first = h.laid.length in omega arith;
-          comes = λ r v at stays low.
-              let its = h.floors.each r v at in
-              let shows = its.shows stays low in let past = its.past in omega arith;
+          comes = λ r v at stays low. grind (arith, common_steps);
           shows = λ flat.
               ap (words_read_from y.reclamation.words (log_from x rows)) h.laid.length
               ∙ words_read (k.V 0) y.reclamation.words k.V (log_from x rows) (log_at x)
@@ -668,9 +603,7 @@ module _ {E : Type 0} (X : Election E) (P : Protocol E (Unit {0}) ℕ)
                   front = map tenure_and_owner l.front;
                   tenure = l.frame.tenure;
                   owner = l.frame.owner;
-                  last =
-                      ap (map tenure_and_owner) l.frames_are
-                      ∙ map-append tenure_and_owner l.front (l.frame ∷ []);
+                  last = grind (arith, common_steps, map, map-append);
                   closed = h.notes.askings.logged l.place l.frame mark.End l.at l.ends;
                 };
             gone = gone_for_good x.senders 0 k.frames lawful;

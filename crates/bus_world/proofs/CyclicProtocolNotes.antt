@@ -1,11 +1,11 @@
 -- What senders have noted stays true: what each has put, how its messages were numbered, and who
 -- asked for a mark.
-use Rattle.std.proofs.Common.{◌+◌, ◌≡◌, ◌≢◌, ℕ, true, false, cond, ◌&&◌, nat_lt, nat_le, Option}
-use Rattle.std.proofs.Common.{Some, None, inl, inr, List, [], ◌∷◌, ◌++◌, length, map, slice_get}
-use Rattle.std.proofs.Common.{arith, refl, sym, ◌∙◌, ap, subst}
+use Rattle.std.proofs.Common.{◌+◌, ◌≡◌, ◌≢◌, ℕ, true, nat_lt, nat_le, Option, Some, None, inl, inr}
+use Rattle.std.proofs.Common.{List, [], ◌∷◌, ◌++◌, length, map, slice_get, arith, refl, sym, ◌∙◌}
+use Rattle.std.proofs.Common.{ap, subst}
 use Rattle.std.proofs.lemmas.Bool.{and_parts, cases_eq}
 use Rattle.std.proofs.lemmas.Bool.Decides.{eqb_tells}
-use Rattle.std.proofs.lemmas.Grind.{flat_map-append}
+use Rattle.std.proofs.lemmas.Grind.{flat_map-append, common_steps}
 use Rattle.std.proofs.lemmas.List.{append-nil, append_assoc, length-append}
 use Rattle.bus_register.specs.Tables.{Beside, put}
 use Rattle.bus_register.specs.Private.TableLaws.{put_here, put_beside}
@@ -15,13 +15,13 @@ use Rattle.bus_batch.specs.declared.messages.Item.{Item}
 use Rattle.bus_batch.specs.Batches.{Pending, next_of}
 use Rattle.bus_batch.specs.Frames.{Frame, Marked, order_of}
 use Rattle.bus_deliverylog.specs.Orders.{of_sender}
-use Rattle.bus_tenure.specs.Core.{Core, is_empty}
+use Rattle.bus_tenure.specs.Core.{Core}
 use Rattle.bus_tenure.specs.declared.phases.Phase.TheVariants as phase
 use Rattle.bus_world.specs.Private.Sending.{Fits}
 use Rattle.bus_world.specs.Headline.{Action, HasPut, HasMarked, Asked, put_of, puts}
 use Rattle.bus_world.specs.Log.{next_number}
 use Rattle.bus_world.proofs.Waiting.{waiting_at, waiting_of}
-use Rattle.bus_world.specs.Private.Machines.{is_open, can_put, can_close}
+use Rattle.bus_world.specs.Private.Machines.{can_put, can_close}
 use Rattle.bus_world.specs.Trails.{actions_with, step_action}
 use Rattle.bus_world.proofs.Accepting.{idle_rests, not_busy}
 use Rattle.bus_world.proofs.Asking.{Askings, askings_on, one_waits, frames_later, own_asked}
@@ -56,16 +56,10 @@ module _ {base : ℕ → ℕ} {E : Type 0} (senders : ℕ → Option (Core E)) (
     (old : senders p ≡ Some c) where
   -- of the others nothing is noted
   noted_other : (ds : List Action) (q : ℕ) → q ≢ p → actions_with p ds D q ≡ D q
-  noted_other ds q ne = elim (eqb_tells q p) [
-    | inl y ↦ absurd (ne y.1)
-    | inr z ↦ ap (λ b. D q ++ cond b ds []) z.0 ∙ append-nil (D q)
-  ]
+  noted_other ds q ne = grind (arith, common_steps, eqb_tells, append-nil)
 
   noted_own : (ds : List Action) (q : ℕ) → q ≡ p → actions_with p ds D q ≡ D q ++ ds
-  noted_own ds q e = elim (eqb_tells q p) [
-    | inl y ↦ ap (λ b. D q ++ cond b ds []) y.0
-    | inr z ↦ absurd (z.1 e)
-  ]
+  noted_own ds q e = grind (arith, common_steps, eqb_tells)
 
   -- a turn: messages go from a batch into the order
   pub noted_turn : (senders' : ℕ → Option (Core E)) → Beside p senders senders' → (c' : Core E)
@@ -77,13 +71,8 @@ module _ {base : ℕ → ℕ} {E : Type 0} (senders : ℕ → Option (Core E)) (
       → Asked m (actions_with p ds D f.owner.0))
       → IsNoted base senders' frames' (actions_with p ds D)
   noted_turn senders' beside c' new frames' ds nothing waits marking says = record {
-    put = λ q. elim (cases_eq q p) [
-      | inl e ↦
-          ap puts (noted_own ds q e) ∙ flat_map-append put_of (D q) ds
-          ∙ ap (λ z. puts (D q) ++ z) nothing.none ∙ append-nil (puts (D q)) ∙ n.put q
-          ∙ sym (waits q)
-      | inr ne ↦ ap puts (noted_other ds q ne) ∙ n.put q ∙ sym (waits q)
-    ];
+    put = λ q.
+        grind (arith, common_steps, cases_eq, noted_own, flat_map-append, append-nil, noted_other);
     counted = λ q. elim (cases_eq q p) [
       | inl e ↦ subst (AreNumbered (base q)) (sym (noted_own ds q e))
           (numbered_more (base q) (D q) ds (n.counted q)
@@ -102,10 +91,7 @@ module _ {base : ℕ → ℕ} {E : Type 0} (senders : ℕ → Option (Core E)) (
       → IsNoted base senders' frames (actions_with p ds D)
   noted_over senders' beside c' new ds nothing waits marking =
       noted_turn senders' beside c' new frames ds nothing (λ q. elim (cases_eq q p) [
-        | inl e ↦
-            ap (λ z. sent_by frames q ++ waiting_of z) (ap senders' e ∙ new)
-            ∙ ap (λ z. sent_by frames q ++ z) waits
-            ∙ ap (λ z. sent_by frames q ++ waiting_of z) (sym (ap senders e ∙ old))
+        | inl e ↦ grind (arith, common_steps, waiting_of)
         | inr ne ↦ ap (λ z. sent_by frames q ++ waiting_of z) (beside q ne)
       ]) marking (frames_later senders frames D n.askings p c old ds)
 
@@ -128,9 +114,7 @@ module _ {base : ℕ → ℕ} {E : Type 0} (senders : ℕ → Option (Core E)) (
             ∙ sym (ap (λ z. sent_by frames q ++ z) after)
             ∙ sym
             (ap (λ z. sent_by frames q ++ waiting_of z) (ap later e ∙ put_here p (Some c') senders))
-        | inr ne ↦
-            ap puts (noted_other ds q ne) ∙ n.put q
-            ∙ sym (ap (λ z. sent_by frames q ++ waiting_of z) (put_beside p (Some c') senders q ne))
+        | inr ne ↦ grind (arith, common_steps, noted_other, ds, waiting_of, put_beside, c')
       ];
       counted = λ q. elim (cases_eq q p) [
         | inl e ↦ subst (AreNumbered (base q)) (sym (noted_own ds q e))
@@ -157,13 +141,7 @@ module _ {base : ℕ → ℕ} {E : Type 0} (senders : ℕ → Option (Core E)) (
       ds = HasPut (next_of c.queue) bytes ∷ []
 
       rests : c.phase ≡ phase.Resting
-      rests =
-          let tests =
-          (and_parts (is_open c.queue.phase) (cond c.queue.busy false true
-          && (nat_le (length bytes) 56 && nat_lt (length c.queue.messages) 16)) can).1 in
-          idle_rests base words frames c c.phase fits
-          (not_busy c.queue.busy (and_parts (cond c.queue.busy false true)
-          (nat_le (length bytes) 56 && nat_lt (length c.queue.messages) 16) tests).0)
+      rests = grind (arith, and_parts, nat_le, length, nat_lt, idle_rests, not_busy)
 
       before : waiting_of (Some c) ≡ c.queue.messages
       before = ap (waiting_at c) rests
@@ -195,9 +173,7 @@ module _ {base : ℕ → ℕ} {E : Type 0} (senders : ℕ → Option (Core E)) (
             ∙ sym (ap (λ z. sent_by frames q ++ z) (ap (waiting_at c') rests))
             ∙ sym
             (ap (λ z. sent_by frames q ++ waiting_of z) (ap later e ∙ put_here p (Some c') senders))
-        | inr ne ↦
-            ap puts (noted_other (HasMarked m ∷ []) q ne) ∙ n.put q
-            ∙ sym (ap (λ z. sent_by frames q ++ waiting_of z) (put_beside p (Some c') senders q ne))
+        | inr ne ↦ grind (arith, common_steps, noted_other, waiting_of, put_beside, c')
       ];
       counted = λ q. elim (cases_eq q p) [
         | inl e ↦ subst (AreNumbered (base q)) (sym (noted_own (HasMarked m ∷ []) q e))
@@ -219,13 +195,7 @@ module _ {base : ℕ → ℕ} {E : Type 0} (senders : ℕ → Option (Core E)) (
       later = put p (Some c') senders
 
       rests : c.phase ≡ phase.Resting
-      rests =
-          let tests =
-          (and_parts (is_open c.queue.phase)
-          (cond c.queue.busy false true && is_empty c.queue.messages) can).1 in
-          idle_rests base words frames c c.phase fits
-          (not_busy c.queue.busy
-          (and_parts (cond c.queue.busy false true) (is_empty c.queue.messages) tests).0)
+      rests = grind (arith, and_parts, idle_rests, not_busy)
 
 -- a turn's actions are steps
 pub steps_put_nothing :
@@ -233,10 +203,7 @@ pub steps_put_nothing :
     → PutsNothing (step_action k tenure got chose a)
 steps_put_nothing None tenure got chose a =
     record { none = refl; never = λ j n bytes e. none_in j _ e }
-steps_put_nothing (Some k) tenure got chose a = record {
-  none = refl;
-  never = λ j n bytes e. stepped_apart tenure k got chose a n bytes (only_one _ j _ e).1;
-}
+steps_put_nothing (Some k) tenure got chose a = grind (arith, common_steps, stepped_apart, only_one)
 
 pub nothing_put : PutsNothing []
 nothing_put = record { none = refl; never = λ j n bytes e. none_in j _ e }

@@ -4,6 +4,7 @@ use Rattle.std.proofs.Common.{◌≡◌, ◌⊎◌, inl, ℕ, ◌<◌, ◌≤◌
 use Rattle.std.proofs.Common.{None, List, inr, length, is_some, arith, refl, sym, ◌∙◌, ap, subst}
 use Rattle.std.proofs.lemmas.Bool.{true≢false}
 use Rattle.std.proofs.lemmas.Option.{same_Some}
+use Rattle.std.proofs.lemmas.Grind.{common_steps}
 use Rattle.bus_presence.specs.Reclamation.{ReclamationSizes, Trails}
 use Rattle.bus_presence.proofs.ReclamationKept.{lt_tells}
 use Rattle.bus_register.specs.declared.kinds.Kind.TheVariants as kind
@@ -181,20 +182,8 @@ module _ {E : Type 0} (X : Election E) (P : Protocol E (Unit {0}) ℕ)
           -- a store that is due is on its own passed place
           by_place : RecvStep v (recv_found y.reclamation.words v) answer next → (place : ℕ)
               → passing_due v ≡ Some place → HasHeard (Some (op_by (Some place) v)) next
-          by_place step place due = elim (lt_tells r x.passers) [
-            | inl low ↦
-                let same : passed_place x rows r ≡ place = same_Some _ _
-                (sym (its.at
-                ∙ ap (λ b. cond {A = Option ℕ} b (Some (passed_place x rows r)) None) low.0)
-                ∙ due_at v place due) in
-                subst (λ q. HasHeard (Some (op_by (Some q) v)) next) same
-                (passes_kept low.1 (due_between v place due) (step.at_passed place due).1)
-            | inr past ↦ absurd (let bad : None ≡ Some place =
-                sym (its.at
-                ∙ ap (λ b. cond {A = Option ℕ} b (Some (passed_place x rows r)) None) past.0)
-                ∙ due_at v place due in
-                cc)
-          ]
+          by_place step place due =
+              grind (arith, common_steps, lt_tells, same_Some, due_at, passes_kept, due_between)
 
           by_due : RecvStep v (recv_found y.reclamation.words v) answer next → (d : Option ℕ)
               → passing_due v ≡ d → HasHeard (Some (op_by d v)) next
@@ -203,9 +192,7 @@ module _ {E : Type 0} (X : Election E) (P : Protocol E (Unit {0}) ℕ)
 
           by_end : (b : Bool) → v.ended ≡ b
               → HasHeard (cond b None (Some (op_by (passing_due v) v))) next
-          by_end true e = stays_kept next
-              (subst (IsPasser x rows y.reclamation.words k.floor r) (sym (does.ended e).1) its)
-              hears
+          by_end true e = grind (arith, common_steps, stays_kept, its)
           by_end false e = by_due (does.going e) (passing_due v) refl
 
     -- ---- it leaves for good, and what it shows is past all words
@@ -224,17 +211,7 @@ module _ {E : Type 0} (X : Election E) (P : Protocol E (Unit {0}) ℕ)
             shows = λ s l. absurd (true≢false s);
             left = λ s l. put_here (passed_place x rows r) PASSED_ALL y.reclamation.words;
           } hears)
-      | inr past ↦ subst (λ o. HasHeard (leaving_by o) (with_leave v))
-          (sym (its.at
-          ∙ ap (λ b. cond {A = Option ℕ} b (Some (passed_place x rows r)) None) past.0))
-          (stays_kept (with_leave v) record {
-            at = its.at;
-            many = its.many;
-            past = its.past;
-            behind = λ s. absurd (true≢false s);
-            shows = λ s l. absurd (true≢false s);
-            left = λ s l. absurd (let a = past.1 in omega arith);
-          } hears)
+      | inr past ↦ grind (arith, common_steps, its, stays_kept, true≢false)
     ] where
       few : V 0 < NUMBERS
       few =

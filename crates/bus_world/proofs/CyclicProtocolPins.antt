@@ -6,6 +6,7 @@ use Rattle.std.proofs.Common.{arith, refl, sym, ◌∙◌, ap, subst}
 use Rattle.std.proofs.lemmas.Bool.{leb-false}
 use Rattle.std.proofs.lemmas.Bool.Decides.{eqb_tells}
 use Rattle.std.proofs.lemmas.Option.{same_Some}
+use Rattle.std.proofs.lemmas.Grind.{common_steps}
 use Rattle.bus_register.specs.declared.kinds.Kind.TheVariants as kind
 use Rattle.bus_register.specs.declared.registers.Op.{Op}
 use Rattle.bus_register.specs.declared.registers.Op.TheVariants.{Load}
@@ -29,7 +30,7 @@ use Rattle.bus_tenure.specs.declared.phases.Phase.TheVariants as phase
 use Rattle.bus_tenure.specs.declared.turns.Turn.{Turn as Answered}
 use Rattle.bus_world.specs.World.{IsLayout}
 use Rattle.bus_world.specs.Private.Sending.{Fits, Sending}
-use Rattle.bus_core.specs.Reusing.Participants.{sizes_with, core_seen, pin_seen}
+use Rattle.bus_core.specs.Reusing.Participants.{sizes_with}
 use Rattle.bus_core.specs.Private.ParticipantTable.{core_looked}
 use Rattle.bus_world.specs.Private.CyclicProtocols.{CyclicProtocol, protocol_pin_stepped}
 use Rattle.bus_world.specs.Private.CyclicProtocols.{protocol_after_going}
@@ -145,9 +146,7 @@ module _ {E : Type 0} (X : Election E) (P : Protocol E (Unit {0}) ℕ)
         kept = record {
           hears = k.hears;
           reached = reached';
-          sending = subst (λ s. Sending (slice_index y.bases) P x V y.home s y.owners frames)
-              (sym (put_is p (Some (core_looked X c (y.reclamation.pins p) got)) y.senders
-              (old ∙ ap Some (sym (ap (λ w. core_looked X c w got) at ∙ same))))) k.sending;
+          sending = grind (arith, common_steps, slice_index, put_is);
           log_is = k.log_is;
           W = k.W;
           floor = k.floor;
@@ -223,15 +222,8 @@ module _ {E : Type 0} (X : Election E) (P : Protocol E (Unit {0}) ℕ)
                   (core_looked X c (y.reclamation.pins p) got)
                   (subst (λ w. IsParticipant w (core_looked X c (y.reclamation.pins p) got))
                   (sym v_now) (subst (IsParticipant (Pinned t)) (sym c_now) record {
-                    pinned = λ u i. (
-                      X.started c.layout.senders c.me c.layout.rounds (row_at c.layout t),
-                      ap (λ w. phase.Electing w
-                          (X.started c.layout.senders c.me c.layout.rounds (row_at c.layout t)))
-                          (pinned_is t u i),
-                    );
-                    electing = λ u f i. ap Pinned (bus.same_electing t u
-                        (X.started c.layout.senders c.me c.layout.rounds (row_at c.layout t)) f
-                        i).0;
+                    pinned = λ u i. grind (arith, common_steps, pinned_is);
+                    electing = λ u f i. grind (arith, common_steps, bus.same_electing);
                     announcing = λ u i. absurd (elim i [ inl a ↦ cc | inr a ↦ cc ]);
                   }));
               ready = ready';
@@ -371,9 +363,7 @@ module _ {E : Type 0} (X : Election E) (P : Protocol E (Unit {0}) ℕ)
         }
 
         waiting_kept : HasKept H (beside_protocol y.reclamation.words Away c) T looked_actions L
-        waiting_kept = subst
-            (λ v. HasKept H (beside_protocol y.reclamation.words v c) T looked_actions L) away
-            (idle_kept looked looked_plain looked_nothing)
+        waiting_kept = grind (arith, common_steps, away, idle_kept, looked_plain, looked_nothing)
 
         spent_kept : c.least ≤ stage / 2
             → HasKept H (beside_protocol y.reclamation.words Away (record c { least = stage / 2 }))
@@ -461,14 +451,7 @@ module _ {E : Type 0} (X : Election E) (P : Protocol E (Unit {0}) ℕ)
                 notes = noted_as c looked looked_nothing refl (λ m i. i);
                 participants = participants_on (Announcing t) c
                     (rested_participant (Announcing t) c rests (λ u i. cc) (λ u i. elim i [
-                      | inl a ↦
-                          (let e = announcing_is t u a in
-                          record {
-                            rests = rests;
-                            looks = looks;
-                            least = omega arith;
-                            room = omega arith;
-                          })
+                      | inl a ↦ grind (arith, common_steps, announcing_is)
                       | inr a ↦ absurd cc
                     ]));
                 ready = k.ready;
@@ -477,9 +460,7 @@ module _ {E : Type 0} (X : Election E) (P : Protocol E (Unit {0}) ℕ)
 
         pub looks_kept : HasKept H (protocol_after_going X x rows y p c LooksAtStage word) T
             looked_actions L
-        looks_kept = subst (λ w.
-            HasKept H (beside_protocol w (pin_seen c stage) (core_seen c stage)) T looked_actions L)
-            (sym (put_same 1 y.reclamation.words)) (by_waits (waits c stage) refl)
+        looks_kept = grind (arith, common_steps, put_same, by_waits)
           where
             by_room : (b : Bool) → nat_le c.layout.rows (stage / 2) ≡ b → waits c stage ≡ false
                 → HasKept H (beside_protocol y.reclamation.words

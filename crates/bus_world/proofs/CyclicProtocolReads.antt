@@ -27,6 +27,7 @@ use Rattle.bus_core.specs.Reusing.Passing.{passing_fed, core_passed}
 use Rattle.bus_core.specs.declared.reuses.Passing.{Passing}
 use Rattle.bus_register.specs.declared.limits.TheConstants.{NUMBERS}
 use Rattle.std.proofs.lemmas.Bool.Decides.{eqb_tells}
+use Rattle.std.proofs.lemmas.Grind.{common_steps}
 use Rattle.bus_tenure.specs.Situations.{lesser, core_floored, phase_floored}
 use Rattle.bus_world.specs.Private.Sending.{Sending}
 use Rattle.bus_world.proofs.BusLaws as bus
@@ -135,28 +136,18 @@ module _ {E : Type 0} (X : Election E) (P : Protocol E (Unit {0}) ℕ)
               | inr ne ↦ absurd (ne (alone q v pg st false d (other_then q d ne at) is))
             ];
             written = λ q v pg st d at is. elim (cases_eq q p) [
-              | inl i ↦
-                  let one = stored_is t page' stored published v pg st true
-                  (ap (λ (w : Core E). w.phase) (own_is q d i at) ∙ is)
-                  in k.stored.written p t page stored c old
-                  (holds ∙ ap (phase.Holding t page stored) one.1)
+              | inl i ↦ grind (arith, common_steps, stored_is, own_is)
               | inr ne ↦ absurd (ne (alone q v pg st true d (other_then q d ne at) is))
             ];
             floor_home = λ pg there. absurd (not_home (ap is_some there));
             floor_held = λ q v pg st b d at is. elim (cases_eq q p) [
-              | inl i ↦
-                  ap (λ (w : Page). w.floor)
-                  (sym (held_page_is t page' stored published v pg st b
-                  (ap (λ (w : Core E). w.phase) (own_is q d i at) ∙ is)))
-                  ∙ floor_is
+              | inl i ↦ grind (arith, common_steps, held_page_is, own_is)
               | inr ne ↦ absurd (ne (alone q v pg st b d (other_then q d ne at) is))
             ];
           } where
             own_is : (q : ℕ) (d : Core E) → q ≡ p → put p (Some reader) y.senders q ≡ Some d
                 → reader ≡ d
-            own_is q d i at = same_Some _ _
-                (sym (put_here p (Some reader) y.senders)
-                ∙ ap (put p (Some reader) y.senders) (sym i) ∙ at)
+            own_is q d i at = grind (arith, same_Some, put_here)
 
             other_then : (q : ℕ) (d : Core E) → (q ≡ p → ⊥)
                 → put p (Some reader) y.senders q ≡ Some d → y.senders q ≡ Some d
@@ -254,7 +245,5 @@ module _ {E : Type 0} (X : Election E) (P : Protocol E (Unit {0}) ℕ)
               (loaded_now (cond b (core_floored c passing'.least) c)) T
               (actions_with p read_step D) L) (sym last.0)
               (read_last (last.1 ∙ ap (λ (l : Layout). l.passers) part.layout))
-          | inr more ↦ subst (λ b. HasKept H
-              (loaded_now (cond b (core_floored c passing'.least) c)) T
-              (actions_with p read_step D) L) (sym more.0) read_one
+          | inr more ↦ grind (arith, common_steps, read_one)
         ]

@@ -2,10 +2,10 @@
 -- and those that clear the next row.
 use Rattle.std.proofs.Common.{◌≡◌, ◌≢◌, inl, inr, ℕ, ◌+◌, ◌*◌, ◌/◌, ◌%◌, ◌<◌, ◌≤◌, Some}
 use Rattle.std.proofs.Common.{arith, refl, sym, ◌∙◌, ap, subst}
-use mathlib.Core.Path.{fun_ext}
 use Rattle.std.proofs.lemmas.Bool.{cases_eq, cases_lt}
 use Rattle.std.proofs.lemmas.Nat.{mod_below, row_fits}
 use Rattle.std.proofs.lemmas.Option.{same_Some}
+use Rattle.std.proofs.lemmas.Grind.{common_steps}
 use Rattle.bus_register.specs.declared.registers.Op.{Op}
 use Rattle.bus_register.specs.Words.{after}
 use Rattle.bus_register.specs.Tables.{put}
@@ -24,18 +24,12 @@ use Rattle.bus_world.specs.Floors.{passed_place}
 
 -- a table stays where what stands at a place is put there
 pub put_is : {A : Type 0} (p : ℕ) (v : A) (table : ℕ → A) → table p ≡ v → put p v table ≡ table
-put_is p v table e = fun_ext (λ q. elim (cases_eq q p) [
-  | inl i ↦ ap (put p v table) i ∙ put_here p v table ∙ sym e ∙ ap table (sym i)
-  | inr ne ↦ put_beside p v table q ne
-])
+put_is p v table e = grind (arith, common_steps, cases_eq, put_here, put_beside)
 
 -- words of two rows of two tenures are different words
 pub far_rows : (width t u j k : ℕ) → t ≢ u → j < width → k < width
     → 2 + t * width + j ≢ 2 + u * width + k
-far_rows width t u j k ne low high same = elim (cases_lt t u) [
-  | inl less ↦ omega (arith, row_fits t width u width less (omega arith))
-  | inr more ↦ omega (arith, row_fits u width t width (omega arith) (omega arith))
-]
+far_rows width t u j k ne low high same = grind (arith, common_steps, cases_lt, row_fits)
 
 module _ (x : Layout) (rows : ℕ) where
   abbrev z : ReclamationSizes
@@ -44,10 +38,7 @@ module _ (x : Layout) (rows : ℕ) where
   -- passed places stand behind all rows
   pub behind_rows : 2 ≤ rows → (t k r : ℕ) → k < x.width
       → passed_place x rows r ≢ row_of z t + k
-  behind_rows two t k r low same = omega (
-    arith,
-    row_fits (t % rows) x.width rows x.width (mod_below t rows (omega arith)) (omega arith),
-  )
+  behind_rows two t k r low same = grind (arith, common_steps, row_fits, mod_below)
 
   -- a reclamation after another, with the same words but for those that are no tenure's
   pub record IsQuiet (h h' : Reclamation) : Type 0 where
@@ -63,28 +54,12 @@ module _ (x : Layout) (rows : ℕ) where
 
   pub quiet_same : (h h' : Reclamation) → h'.words ≡ h.words → h'.reclaimer ≡ h.reclaimer
       → IsQuiet h h'
-  quiet_same h h' e f = record {
-    length = ap (λ w. w 0) e;
-    stage = ap (λ w. w 1) e;
-    log = λ k low. ap (λ w. w (log_from x rows + k)) e;
-    passed = λ r low. ap (λ w. w (passed_place x rows r)) e;
-    alive = λ t live. alive_same z h h' t (ap (λ w. w 1) e) f live;
-    row = λ t k low live. ap (λ w. w (row_of z t + k)) e;
-  }
+  quiet_same h h' e f = grind (arith, common_steps, alive_same)
 
   quiet_presence : (h : Reclamation) (pins : ℕ → Pin) (p n : ℕ) → p < x.senders
       → IsQuiet h
       (record { words = put (presence_at z p) n h.words; pins = pins; reclaimer = h.reclaimer })
-  quiet_presence h pins p n below = let beside = put_beside (presence_at z p) n h.words in record {
-    length = beside 0 (λ e. omega arith);
-    stage = beside 1 (λ e. omega arith);
-    log = λ k low. beside (log_from x rows + k) (λ e. omega arith);
-    passed = λ r low. beside (passed_place x rows r) (λ e. omega arith);
-    alive = λ t live. alive_same z h
-        (record { words = put (presence_at z p) n h.words; pins = pins; reclaimer = h.reclaimer }) t
-        (beside 1 (λ e. omega arith)) refl live;
-    row = λ t k low live. beside (row_of z t + k) (λ e. omega arith);
-  }
+  quiet_presence h pins p n below = grind (arith, common_steps, put_beside, alive_same)
 
   -- a step of a pin
   pub quiet_pin : (h : Reclamation) (pins : ℕ → Pin) (p : ℕ) (v : Pin) (o : Op) → p < x.senders
@@ -96,9 +71,7 @@ module _ (x : Layout) (rows : ℕ) where
       pins = pins;
       reclaimer = h.reclaimer;
     })) (sym e) (quiet_presence h pins p (after o (number_of_step h o)) below)
-    | inr load ↦ quiet_same h
-        (record { words = words_after h o; pins = pins; reclaimer = h.reclaimer })
-        (load_same h o load) refl
+    | inr load ↦ grind (arith, common_steps, quiet_same, load_same)
   ]
 
   -- a step of a reclamation
@@ -112,21 +85,7 @@ module _ (x : Layout) (rows : ℕ) where
           words = words_after h o;
           reclaimer = Some (reclaim_fed s (number_of_step h o));
         })
-    quiet_scans o a = let same = load_same h o (s.presences + s.scanned, a.loads) in record {
-      length = ap (λ y. y 0) same;
-      stage = ap (λ y. y 1) same;
-      log = λ k low. ap (λ y. y (log_from x rows + k)) same;
-      passed = λ r low. ap (λ y. y (passed_place x rows r)) same;
-      alive = λ u live.
-          let e = ap (λ y. y 1) same in let b = live.opened in let c = live.stays in record {
-            opened = omega arith;
-            stays = omega arith;
-            unreclaimed = λ y at all. absurd (let one =
-                ap (λ (d : Reclaiming). d.scanned) (same_Some _ _ (sym is ∙ at)) in
-                let n = w.senders in let few = a.few in omega arith);
-          };
-      row = λ t k low live. ap (λ y. y (row_of z t + k)) same;
-    }
+    quiet_scans o a = grind (arith, common_steps, load_same, same_Some)
 
     quiet_wipes : s.senders ≤ s.scanned → s.cleared < s.width
         → IsQuiet h (record h {
@@ -153,14 +112,7 @@ module _ (x : Layout) (rows : ℕ) where
           stage = stage;
           log = λ k low. beside (log_from x rows + k) (λ e. omega arith);
           passed = λ r low. beside (passed_place x rows r) (λ e. omega arith);
-          alive = λ u live.
-              let b = live.opened in
-              let d = live.stays in
-              record {
-                opened = omega arith;
-                stays = omega arith;
-                unreclaimed = λ y is some. later u live;
-              };
+          alive = λ u live. grind (arith, common_steps);
           row = λ u k low live. beside (row_of z u + k) (λ e.
               let l = later u live in let held = w.held in let b = live.opened in
               rows_apart z u (w.tenure + 1) k s.cleared

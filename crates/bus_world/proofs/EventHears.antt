@@ -6,6 +6,7 @@ use Rattle.std.proofs.Common.{sym, ◌∙◌, ap, subst}
 use Rattle.std.proofs.lemmas.Bool.Decides.{eqb_tells}
 use Rattle.std.proofs.lemmas.List.{append-nil}
 use Rattle.std.proofs.lemmas.Option.{same_Some, slice_get_within, none-some}
+use Rattle.std.proofs.lemmas.Grind.{common_steps}
 use Rattle.bus_register.specs.Protocol.{Protocol}
 use Rattle.bus_register.specs.Private.TableLaws.{get_set_same, get_set_other}
 use Rattle.bus_batch.specs.Frames.{Frame, log_words}
@@ -17,7 +18,7 @@ use Rattle.bus_world.specs.Trails.{answers_joined}
 use Rattle.bus_world.specs.declared.events.Answer.{Answer}
 use Rattle.bus_world.specs.Private.Answers.{Answers, RecvAnswers}
 use Rattle.bus_world.specs.Private.Invariants.{LawfulBus}
-use Rattle.bus_world.specs.Private.Machines.{Side, Bus, Happens, LeaverDoes}
+use Rattle.bus_world.specs.Private.Machines.{Bus, Happens, LeaverDoes}
 use Rattle.bus_world.specs.Private.Trails.{heard_of, answer_heard}
 use Rattle.bus_world.proofs.HearTrails.{hears_later, hears_more, hears_left, told_later}
 use Rattle.bus_world.proofs.HearTrails.{each_joined, silent_joined}
@@ -70,9 +71,7 @@ module _ (bases : List ℕ) {E : Type 0} (X : Election E) (P : Protocol E (Unit 
           (hears_left (frames ++ more) v (A q ++ []) (later q v i)) r u
           (ap (λ z. slice_get z r) (sym d) ∙ j);
       silent = λ r j. elim (eqb_tells r q) [
-        | inl y ↦ absurd (none-some (with_leave v) (sym j ∙ ap (slice_get b'.receivers) y.1
-            ∙ ap (λ z. slice_get z q) d ∙ get_set_same b.receivers q (with_leave v)
-            (slice_get_within b.receivers q v i)))
+        | inl y ↦ grind (arith, common_steps, none-some, slice_get, get_set_same, slice_get_within)
         | inr y ↦ silent_on r (sym (get_set_other b.receivers q (with_leave v) r y.1)
             ∙ ap (λ z. slice_get z r) (sym d) ∙ j)
       ];
@@ -132,9 +131,7 @@ module _ (bases : List ℕ) {E : Type 0} (X : Election E) (P : Protocol E (Unit 
               let own = (lawful.keeps.receiving q w.0 j).receives in
               let log = h.keeps.sending.log in
               let size = length-logged log in
-              let same : slice_index b'.side.words 0 ≡ slice_index b.side.words 0 =
-              ap (λ (z : Side E). slice_index z.words 0) side in
-              let a = own.place_below in let d = own.known_below in omega arith
+              grind (arith, common_steps, slice_index)
 
     pub event_heard : LawfulBus (slice_index bases) P x b' (frames ++ more)
         → (e : Event) (a : Answer) → Happens X b e b' → Answers X b e a b'

@@ -1,11 +1,11 @@
 -- Every event keeps what ties the trails to the bus, and the promise follows from it.
-use Rattle.std.proofs.Common.{◌≡◌, ℕ, ◌+◌, ◌*◌, ◌<◌, Bool, true, false, cond, ◌&&◌, ◌==◌}
-use Rattle.std.proofs.Common.{nat_lt, nat_le, Option, Some, None, is_some, inl, inr, List, [], ◌∷◌}
-use Rattle.std.proofs.Common.{◌++◌, length, map, take, slice_get, slice_index, slice_set, arith}
-use Rattle.std.proofs.Common.{refl, sym, ◌∙◌, ap, subst}
+use Rattle.std.proofs.Common.{◌≡◌, ℕ, ◌+◌, ◌*◌, ◌<◌, Bool, true, false, cond, ◌==◌, nat_lt, nat_le}
+use Rattle.std.proofs.Common.{Option, Some, None, is_some, inl, inr, List, [], ◌∷◌, ◌++◌, length}
+use Rattle.std.proofs.Common.{map, take, slice_get, slice_index, slice_set, arith, refl, sym, ◌∙◌}
+use Rattle.std.proofs.Common.{ap, subst}
 use mathlib.Core.Path.{fun_ext}
 use Rattle.std.proofs.lemmas.Bool.Decides.{eqb_tells}
-use Rattle.std.proofs.lemmas.Grind.{flat_map-append}
+use Rattle.std.proofs.lemmas.Grind.{flat_map-append, common_steps}
 use Rattle.std.proofs.lemmas.List.{append-nil, length-append, length-map, take_at, take-append-le}
 use Rattle.std.proofs.Math.Seq.{take-nil}
 use Rattle.std.proofs.lemmas.Option.{same_Some, slice_get_within, none-some}
@@ -23,7 +23,7 @@ use Rattle.bus_batch.specs.Frames.{order_in, tenure_and_owner}
 use Rattle.bus_deliverylog.specs.Orders.{of_sender}
 use Rattle.bus_deliverylog.specs.Receiving.{Receiving}
 use Rattle.bus_tenure.specs.Core.{Core, Election, Layout}
-use Rattle.bus_tenure.specs.Situations.{kind_at, situation_of, line_of, op_at, answer_at}
+use Rattle.bus_tenure.specs.Situations.{situation_of, line_of, op_at, answer_at}
 use Rattle.bus_tenure.specs.declared.turns.Turn.{Turn as Answered}
 use Rattle.bus_tenure.specs.declared.phases.Phase.TheVariants as phase
 use Rattle.bus_ownerbits.specs.OneOwner.{OneOwner}
@@ -43,12 +43,12 @@ use Rattle.bus_world.proofs.FrameOwners.{owner_took, rise}
 use Rattle.bus_world.proofs.Beginning.{words_zero}
 use Rattle.bus_world.proofs.BusLaws as bus
 use Rattle.bus_world.specs.Headline.{Action, HasPut, HasMarked, Stepped, puts, Took, Asked}
-use Rattle.bus_world.specs.Headline.{IsPrefix, Promises}
-use Rattle.bus_world.specs.Log.{next_number, sent_count, words_of_frame}
+use Rattle.bus_world.specs.Headline.{Promises}
+use Rattle.bus_world.specs.Log.{words_of_frame}
 use Rattle.bus_world.proofs.LogLaws.{log_words-append}
 use Rattle.bus_world.specs.Private.Machines.{Side, side_after, core_after, Bus, going, IsEvent}
 use Rattle.bus_world.specs.Private.Machines.{Happens, SenderDoes, with_sender, can_put, can_close}
-use Rattle.bus_world.specs.Private.Machines.{put_in, mark_in, IsNew, is_open}
+use Rattle.bus_world.specs.Private.Machines.{put_in, mark_in, IsNew}
 use Rattle.bus_world.specs.Turning.{number_found}
 use Rattle.bus_world.proofs.TurningLaws.{side_of}
 use Rattle.bus_world.proofs.WorldLaws.{counted_at, event_left, event_puts, new_is_lawful}
@@ -98,17 +98,7 @@ pub numbered_more : (first : ℕ) (xs ds : List Action) → AreNumbered first xs
     → ((j n : ℕ) (bytes : List ℕ) → slice_get ds j ≡ Some (HasPut n bytes)
     → (j ≡ 0) × (n ≡ first + length (puts xs))) → AreNumbered first (xs ++ ds)
 numbered_more first xs ds h more place number bytes e =
-    elim (got_split xs ds place (HasPut number bytes) e) [
-      | inl l ↦
-          h place number bytes l
-          ∙ ap (λ z. first + length (puts z))
-          (sym (take-append-le place xs ds (let w = slice_get_within xs place _ l in omega arith)))
-      | inr r ↦
-          (let m = more r.0 number bytes r.2 in
-          m.1
-          ∙ ap (λ z. first + length (puts z))
-          (sym (take_at xs ds place (let a = r.1 in let d = m.0 in omega arith))))
-    ]
+    grind (arith, common_steps, got_split, length, take-append-le, slice_get_within, take_at)
 
 -- ---- what an event puts
 pub step_puts : (k : Option Kind) (tn : Option ℕ) (got : ℕ) (ch : Option ℕ) (a : Answered)
@@ -120,13 +110,7 @@ below_most : (len most : ℕ) → len < most → nat_lt len most ≡ true
 below_most len most l = grind (arith, nat_tests)
 
 pub put_taken : (q : Pending) (len : ℕ) → CanPut q len → can_put q len ≡ true
-put_taken q len can =
-    ap
-    (λ z. is_open z && (cond q.busy false true && (nat_le len 56 && nat_lt (length q.messages) 16)))
-    can.is_open
-    ∙ ap (λ z. cond z false true && (nat_le len 56 && nat_lt (length q.messages) 16)) can.idle
-    ∙ ap (λ z. z && nat_lt (length q.messages) 16) (le-leb len 56 can.short)
-    ∙ below_most (length q.messages) 16 can.room
+put_taken q len can = grind (arith, common_steps, nat_le, nat_lt, length, le-leb, below_most)
 
 -- the words of a frame that joins the others
 words_with : (o : Option Frame) (frames : List Frame)
@@ -151,18 +135,12 @@ module _ {E : Type 0} (X : Election E) where
       → TurnAnswers X words o word a → puts (cond t (turning_actions X words o word a) []) ≡ []
   turn_puts_at t words None word a told = absurd told
   turn_puts_at false words (Some c) word a told = refl
-  turn_puts_at true words (Some c) word a told =
-      ap (λ z. puts (turning_actions X words (Some c) word z)) told
-      ∙ step_puts (kind_at X c (situation_of X c)) _ _ _ _
+  turn_puts_at true words (Some c) word a told = grind (arith, common_steps, step_puts)
 
   actions_put : (b : Bus E) (e : Event) (a : Answer) (b' : Bus E) (q : ℕ) → Answers X b e a b'
       → puts (actions_of X b e a q) ≡ accepted b e q
-  actions_put b (Put s bytes) a b' q w =
-      ap (λ z. puts (cond (q == s) (put_actions bytes z) [])) w.2
-      ∙ put_puts_at (q == s) (going b s) bytes w.0 w.1
-  actions_put b (Ask s m) a b' q w =
-      ap (λ z. puts (cond (q == s) z [])) (ap mark_actions w.1 ∙ mark_adds m)
-      ∙ mark_puts_at m (q == s)
+  actions_put b (Put s bytes) a b' q w = grind (arith, common_steps, put_puts_at)
+  actions_put b (Ask s m) a b' q w = grind (arith, common_steps, mark_adds, mark_puts_at)
   actions_put b (Turn s word) a b' q w = turn_puts_at (q == s) b.side.words (going b s) word a w
   actions_put b (Recv r) a b' q w = refl
   actions_put b (Stop s) a b' q w = refl
@@ -367,13 +345,7 @@ module _ (bases : List ℕ) {E : Type 0} (X : Election E) (P : Protocol E (Unit 
         let sent_now = map (λ (v : Item). v.message) (of_sender s (order_of frames)) in
         let waits : waiting_of (slice_get b.side.senders s) ≡ c.queue.messages =
         ap waiting_of i ∙ ap (waiting_at c) e in
-        let size : length (put_by b frames s) ≡ length sent_now + length c.queue.messages =
-        ap (λ z. length (sent_now ++ z)) waits ∙ length-append sent_now c.queue.messages in
-        let many : length sent_now ≡ sent_count s frames =
-        length-map (of_sender s (order_of frames)) (λ (v : Item). v.message) in
-        let first : c.queue.first ≡ next_number (slice_index bases) s frames =
-        fits.1.0 ∙ ap (λ z. next_number (slice_index bases) z frames) part.me in
-        omega arith
+        grind (arith, common_steps, length, put_by, length-append, length-map, slice_index)
     number_at s c i (phase.Electing t u) e fits idle =
         absurd (busy_apart c.queue.busy fits.0.busy idle)
     number_at s c i (phase.Taken t) e fits idle = absurd fits
@@ -386,11 +358,7 @@ module _ (bases : List ℕ) {E : Type 0} (X : Election E) (P : Protocol E (Unit 
     put_number : (s : ℕ) (o : Option (Core E)) → going b s ≡ o → (len n : ℕ) → PutGives o len n
         → n ≡ slice_index bases s + length (put_by b frames s)
     put_number s None i len n gives = absurd gives
-    put_number s (Some c) i len n gives =
-        gives.1
-        ∙ number_at s c (is_there b s c i) c.phase refl
-        (h.keeps.sending.parts s c (is_there b s c i)).fits
-        (ap (λ z. cond z false true) gives.0.idle)
+    put_number s (Some c) i len n gives = grind (arith, number_at, is_there)
 
     numbers : (b' : Bus E) (e : Event) (a : Answer) → Answers X b e a b'
         → (q j n : ℕ) (bytes : List ℕ) → slice_get (actions_of X b e a q) j ≡ Some (HasPut n bytes)
@@ -408,29 +376,10 @@ module _ (bases : List ℕ) {E : Type 0} (X : Election E) (P : Protocol E (Unit 
       | inr y ↦ absurd
           (none_in j _ (ap (λ t. slice_get (cond t (put_actions bytes' a) []) j) (sym y.0) ∙ e))
     ]
-    numbers b' (Ask s m) a w q j n bytes e = absurd
-        (by_test (q == s)
-        (ap (λ t. slice_get (cond (q == s) t []) j) (sym (ap mark_actions w.1 ∙ mark_adds m)) ∙ e))
-      where
-        by_test : (t : Bool) → slice_get (cond t (HasMarked m ∷ []) []) j ≡ Some (HasPut n bytes)
-            → ⊥
-        by_test true f = marked_apart m n bytes (only_one (HasMarked m) j _ f).1
-        by_test false f = none_in j _ f
-    numbers b' (Turn s word) a w q j n bytes e = absurd (turning (q == s) (going b s) w e)
-      where
-        by_kind : (k : Option Kind) (tn : Option ℕ) (got : ℕ) (ch : Option ℕ) (t : Answered)
-            → slice_get (step_action k tn got ch t) j ≡ Some (HasPut n bytes) → ⊥
-        by_kind None tn got ch t f = none_in j _ f
-        by_kind (Some k) tn got ch t f =
-            stepped_apart tn k got ch t n bytes (only_one (Stepped tn k got ch t) j _ f).1
-
-        turning : (t : Bool) (o : Option (Core E)) → TurnAnswers X b.side.words o word a
-            → slice_get (cond t (turning_actions X b.side.words o word a) []) j
-            ≡ Some (HasPut n bytes) → ⊥
-        turning t None told f = absurd told
-        turning false (Some c) told f = none_in j _ f
-        turning true (Some c) told f = by_kind (kind_at X c (situation_of X c)) _ _ _ _
-            (ap (λ z. slice_get (turning_actions X b.side.words (Some c) word z) j) (sym told) ∙ f)
+    numbers b' (Ask s m) a w q j n bytes e =
+        grind (arith, slice_get, mark_adds, marked_apart, only_one, none_in)
+    numbers b' (Turn s word) a w q j n bytes e =
+        grind (arith, common_steps, slice_get, none_in, stepped_apart, only_one)
     numbers b' (Recv r) a w q j n bytes e = absurd (none_in j _ e)
     numbers b' (Stop s) a w q j n bytes e = absurd (none_in j _ e)
     numbers b' (Gone r) a w q j n bytes e = absurd (none_in j _ e)
@@ -545,25 +494,13 @@ module _ (bases : List ℕ) {E : Type 0} (X : Election E) (P : Protocol E (Unit 
           };
         };
         log_is = k.log_is;
-        tied = record {
-          tables = k.tied.tables;
-          takers = k.tied.takers;
-          puts = k.tied.puts;
-          counted = k.tied.counted;
-          heard = heard.each;
-          silent = heard.silent;
-          askings = k.tied.askings;
-        };
+        tied = grind (arith, common_steps);
       }
 
   -- ---- a new bus
   module _ (b : Bus E) (new : IsNew bases x b) where
     new_puts : (s : ℕ) → put_by b [] s ≡ []
-    new_puts s = waiting_new (slice_get b.side.senders s) refl
-      where
-        waiting_new : (o : Option (Core E)) → slice_get b.side.senders s ≡ o → waiting_of o ≡ []
-        waiting_new None e = refl
-        waiting_new (Some c) e = ap (λ z. waiting_of (Some z)) (new.senders s c e).1
+    new_puts s = grind (arith, common_steps, slice_get, waiting_of)
 
     start_kept : Kept b no_trails
     start_kept = record {
@@ -573,10 +510,7 @@ module _ (bases : List ℕ) {E : Type 0} (X : Election E) (P : Protocol E (Unit 
       tied = record {
         tables = record {
           elections = λ t p. None;
-          kept = λ t l.
-              let apart = row_within t x.rows (P.width x.senders) l in
-              laws.fresh x.senders (2 + t * P.width x.senders) (slice_index b.side.words)
-              (λ r u v. words_zero b new r);
+          kept = λ t l. grind (arith, common_steps, row_within, slice_index, words_zero);
           ahead = λ p c t e l. refl;
           electing = λ p c t e i j. absurd (bus.resting_apart t e
               (sym (ap (λ (z : Core E). z.phase) (new.senders p c i).1) ∙ j));
@@ -584,12 +518,7 @@ module _ (bases : List ℕ) {E : Type 0} (X : Election E) (P : Protocol E (Unit 
           elected = λ t s o e. absurd (none-some o e);
           only_elected = λ t s o a. absurd (none_in a.place _ a.at);
         };
-        takers = record {
-          took = λ t s e. absurd (none_in t s (ap (λ z. slice_get z t) (sym new.owners) ∙ e));
-          elected = λ t s e. absurd (none_in t s (ap (λ z. slice_get z t) (sym new.owners) ∙ e));
-          only = λ t s i a. absurd (none_in i _ a.at);
-          once = λ t s i j a c. absurd (none_in i _ a.at);
-        };
+        takers = grind (arith, common_steps, none_in, slice_get);
         puts = λ s. sym (new_puts s);
         counted = λ s place number bytes e. absurd (none_in place _ e);
         heard = λ r v i.
@@ -603,11 +532,7 @@ module _ (bases : List ℕ) {E : Type 0} (X : Election E) (P : Protocol E (Unit 
               silent = λ j k a e l f. absurd (none_in j _ e);
             };
         silent = λ r i. inl refl;
-        askings = record {
-          waiting = λ q c m i waits. absurd (open_no_marking m
-              (ap (λ (z : Core E). z.queue.phase) (sym (new.senders q c i).1) ∙ waits));
-          logged = λ j f m at says. absurd (none_in j f at);
-        };
+        askings = grind (arith, common_steps, open_no_marking, none_in);
       };
     }
 
@@ -650,13 +575,7 @@ module _ (bases : List ℕ) {E : Type 0} (X : Election E) (P : Protocol E (Unit 
       delivered = λ r. delivered_to x.senders frames k.lawful.keeps.sending.log.lawful
           (told_by r).0 (T.heard r) (told_by r).1;
       told = λ r. heads_to frames (told_by r).0 (T.heard r) (told_by r).1;
-      faithful = record {
-        numbered = λ s q i e. counted_at (slice_index bases s) (of_sender s (order_of frames)) q i
-            (k.lawful.keeps.sending.log.counted s) e;
-        messages = λ s. subst (IsPrefix (map (λ i. i.message) (of_sender s (order_of frames))))
-            (sym (k.tied.puts s))
-            (record { rest = waiting_of (slice_get b.side.senders s); together = refl });
-      };
+      faithful = grind (arith, common_steps, counted_at, slice_index, map, waiting_of, slice_get);
       numbered = k.tied.counted;
       silent = λ r. silent_to frames (told_by r).0 (T.heard r) (told_by r).1;
       closed = λ e.
@@ -665,9 +584,7 @@ module _ (bases : List ℕ) {E : Type 0} (X : Election E) (P : Protocol E (Unit 
             front = map tenure_and_owner l.front;
             tenure = l.frame.tenure;
             owner = l.frame.owner;
-            last =
-                ap (map tenure_and_owner) l.frames_are
-                ∙ map-append tenure_and_owner l.front (l.frame ∷ []);
+            last = grind (arith, common_steps, map, map-append);
             closed = k.tied.askings.logged l.place l.frame mark.End l.at l.ends;
           };
       gone = gone_for_good x.senders 0 frames k.lawful.keeps.sending.log.lawful;
@@ -684,18 +601,7 @@ module _ (bases : List ℕ) {E : Type 0} (X : Election E) (P : Protocol E (Unit 
     }
 
     pub by_frames : IsPromisedBy bases x b T (order_of frames) (map tenure_and_owner frames)
-    by_frames = record {
-      spelled = record {
-        frames = frames;
-        lawful = k.lawful.keeps.sending.log.lawful;
-        words_are = k.log_is;
-        order_is = refl;
-        owners_are = refl;
-      };
-      shows = k.lawful.keeps.sending.log.words_are ∙ k.log_is;
-      takers = record { took = k.tied.takers.took; only = k.tied.takers.only };
-      promises = page;
-    }
+    by_frames = grind (arith, common_steps, page)
 
   -- whatever trails lead to a bus, the promise holds of them
   pub reached_kept : (b : Bus E) (T : Trails) → Reached X bases x b T → Kept b T

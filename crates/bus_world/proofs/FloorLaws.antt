@@ -1,18 +1,18 @@
 -- What each step does to the floor and to passed places, and where frames begin: a passed place
 -- only rises, and so does the floor.
-use Rattle.std.proofs.Common.{◌≡◌, ◌≢◌, ◌⊎◌, inl, inr, ℕ, ◌<◌, ◌≤◌, Bool, true, false}
-use Rattle.std.proofs.Common.{cond, nat_lt, Option, Some, None, List, [], ◌++◌, length, take}
-use Rattle.std.proofs.Common.{drop, slice_get, arith, refl, sym, ◌∙◌, ap, subst, append_assoc}
+use Rattle.std.proofs.Common.{◌≡◌, ◌≢◌, ◌⊎◌, inl, inr, ℕ, ◌<◌, ◌≤◌, true, false, nat_lt, Option}
+use Rattle.std.proofs.Common.{Some, None, List, [], ◌++◌, length, take, drop, slice_get, arith}
+use Rattle.std.proofs.Common.{refl, sym, ◌∙◌, ap, subst, append_assoc}
 use Rattle.std.proofs.lemmas.Bool.{cases_eq, ltb-true, ltb-false, true≢false}
 use Rattle.std.proofs.lemmas.List.{append-nil, length-append, length-take, take-append-drop}
-use Rattle.std.proofs.lemmas.Grind.{flat_map-append}
+use Rattle.std.proofs.lemmas.Grind.{flat_map-append, common_steps}
 use Rattle.std.proofs.lemmas.List.Elements.{All-nil}
 use Rattle.std.proofs.lemmas.Option.{same_Some}
 use Rattle.bus_register.specs.declared.limits.TheConstants.{NUMBERS, PASSED_ALL}
 use Rattle.bus_register.specs.Tables.{put}
 use Rattle.bus_register.specs.Private.TableLaws.{put_here, put_beside}
 use Rattle.bus_batch.proofs.Feeding.{whole_log}
-use Rattle.bus_batch.specs.Frames.{Frame, AreFrames, log_words, log_pieces, frame_words}
+use Rattle.bus_batch.specs.Frames.{Frame, AreFrames, log_words, log_pieces}
 use Rattle.bus_batch.specs.Reading.{Reading, Awaits, is_between}
 use Rattle.bus_batch.specs.declared.readers.Place.{Place}
 use Rattle.bus_batch.specs.declared.readers.Place.TheVariants.{Between, Body, Data, Ended, Bad}
@@ -31,30 +31,16 @@ pub boundary_first : (frames : List Frame) → IsBoundary frames 0
 boundary_first frames = record { front = []; rest = frames; frames_are = refl; place_is = refl }
 
 pub boundary_last : (frames : List Frame) → IsBoundary frames (length (log_words frames))
-boundary_last frames = record {
-  front = frames;
-  rest = [];
-  frames_are = sym (append-nil frames);
-  place_is = refl;
-}
+boundary_last frames = grind (arith, common_steps, append-nil)
 
 -- where more frames follow
 pub boundary_later : (frames more : List Frame) (place : ℕ) → IsBoundary frames place
     → IsBoundary (frames ++ more) place
-boundary_later frames more place b = record {
-  front = b.front;
-  rest = b.rest ++ more;
-  frames_are = ap (λ fs. fs ++ more) b.frames_are ∙ append_assoc b.front b.rest more;
-  place_is = b.place_is;
-}
+boundary_later frames more place b = grind (arith, common_steps, append_assoc)
 
 boundary_low : (frames : List Frame) (place : ℕ) → IsBoundary frames place
     → place ≤ length (log_words frames)
-boundary_low frames place b =
-    let all = ap (λ fs. length (log_words fs)) b.frames_are
-    ∙ ap length (flat_map-append frame_words b.front b.rest)
-    ∙ length-append (log_words b.front) (log_words b.rest) in
-    let at = b.place_is in omega arith
+boundary_low frames place b = grind (arith, common_steps, length, flat_map-append, length-append)
 
 -- where no frame is under way
 between : (r : Reading) (p : Place) → is_between p ≡ true → Awaits (record r { place = p }) [] []
@@ -75,24 +61,12 @@ place_begins n frames len place known reading h lawful size is =
     lawful
     (ap (λ ws. ws ++ drop place (log_words frames)) read.words_are
     ∙ take-append-drop place (log_words frames)) in
-    record {
-      front = read.frames;
-      rest = begun.0;
-      frames_are = begun.1;
-      place_is =
-          let a = length-take place (log_words frames) in
-          let b = ap length read.words_are in
-          let c = h.place_below in let d = h.known_below in omega arith;
-    }
+    grind (arith, common_steps, length-take, length)
 
 -- ---- the lesser of two numbers
 pub lesser_is : (a b : ℕ)
     → ((lesser a b ≡ a) × (a ≤ b)) ⊎ ((lesser a b ≡ b) × (b ≤ a))
-lesser_is a b = by (nat_lt a b) refl where
-  by : (c : Bool) → nat_lt a b ≡ c
-      → ((cond c a b ≡ a) × (a ≤ b)) ⊎ ((cond c a b ≡ b) × (b ≤ a))
-  by true e = let low = ltb-true a b e in inl (refl, omega arith)
-  by false e = let high = ltb-false a b e in inr (refl, omega arith)
+lesser_is a b = grind (arith, common_steps, nat_lt, ltb-true, ltb-false)
 
 -- two passed places are two words
 pub places_apart : (x : Layout) (rows r q : ℕ) → r ≢ q
@@ -101,10 +75,7 @@ places_apart x rows r q ne same = ne (omega arith)
 
 -- where no word of the log is used again there are none
 pub passed_none : (x : Layout) (rows r : ℕ) → x.passers ≡ 0 → passed_of x rows r ≡ None
-passed_none x rows r flat = elim (lt_tells r x.passers) [
-  | inl low ↦ absurd (let a = low.1 in omega arith)
-  | inr past ↦ ap (λ b. cond {A = Option ℕ} b (Some (passed_place x rows r)) None) past.0
-]
+passed_none x rows r flat = grind (arith, common_steps, lt_tells)
 
 module _ (x : Layout) (rows : ℕ) where
   abbrev shown : (ℕ → ℕ) → ℕ → ℕ
@@ -117,25 +88,7 @@ module _ (x : Layout) (rows : ℕ) where
       → (v.passed_at ≡ passed_of x rows r) × ((x.passers ≡ 0) ⊎ (r < x.passers))
       × (v.passed ≡ 0) × (v.gone ≡ false))
       → AreFloors x rows words passing_begun receivers [] 0 0
-  floors_new words zeros receivers new = record {
-    low = omega arith;
-    none = λ flat. refl;
-    behind = λ r l. omega arith;
-    least = omega arith;
-    loaded = λ r l m. absurd (omega arith);
-    begins = boundary_first [];
-    edges = λ r l. inl (subst (IsBoundary []) (sym (zeros (passed_place x rows r)))
-        (boundary_first []));
-    edge = inr refl;
-    each = λ r v e. let n = new r v e in let none = n.2 in record {
-      at = n.0;
-      many = n.1;
-      past = omega arith;
-      behind = λ stays. omega arith;
-      shows = λ stays l. zeros (passed_place x rows r) ∙ sym n.2;
-      left = λ gone l. absurd (true≢false (sym gone ∙ n.3));
-    };
-  }
+  floors_new words zeros receivers new = grind (arith, common_steps, boundary_first, true≢false)
 
   module _ (words : ℕ → ℕ) (passing : Passing) (receivers : ℕ → Option Receiving)
       (frames : List Frame) (len floor : ℕ)
@@ -144,98 +97,23 @@ module _ (x : Layout) (rows : ℕ) where
     pub floors_over : (words' : ℕ → ℕ) (len' : ℕ) → len' ≡ len
         → ((r : ℕ) → r < x.passers → shown words' r ≡ shown words r)
         → AreFloors x rows words' passing receivers frames len' floor
-    floors_over words' len' long same = record {
-      low = (let a = h.low in omega arith);
-      none = h.none;
-      behind = λ r l. subst (λ n. floor ≤ n) (sym (same r l)) (h.behind r l);
-      least = h.least;
-      loaded = λ r l m. subst (λ n. passing.least ≤ n) (sym (same r m)) (h.loaded r l m);
-      begins = h.begins;
-      edges = λ r l. subst (λ n. IsBoundary frames n ⊎ (n ≡ PASSED_ALL)) (sym (same r l))
-          (h.edges r l);
-      edge = h.edge;
-      each = λ r v e. let p = h.each r v e in record {
-        at = p.at;
-        many = p.many;
-        past = p.past;
-        behind = p.behind;
-        shows = λ stays l. same r l ∙ p.shows stays l;
-        left = λ gone l. same r l ∙ p.left gone l;
-      };
-    }
+    floors_over words' len' long same = grind (arith, common_steps)
 
     -- ---- frames are published
     pub floors_later : (more : List Frame) (len' : ℕ) → len ≤ len'
         → AreFloors x rows words passing receivers (frames ++ more) len' floor
-    floors_later more len' longer = record {
-      low = (let a = h.low in omega arith);
-      none = h.none;
-      behind = h.behind;
-      least = h.least;
-      loaded = h.loaded;
-      begins = boundary_later frames more floor h.begins;
-      edges = λ r l. elim (h.edges r l) [
-        | inl b ↦ inl (boundary_later frames more (shown words r) b)
-        | inr all ↦ inr all
-      ];
-      edge = elim h.edge [
-        | inl b ↦ inl (boundary_later frames more passing.least b)
-        | inr all ↦ inr all
-      ];
-      each = h.each;
-    }
+    floors_later more len' longer = grind (arith, common_steps, boundary_later)
 
     -- ---- a tenure begins
     pub floors_begun : len < NUMBERS
         → AreFloors x rows words passing_begun receivers frames len floor
-    floors_begun few = record {
-      low = h.low;
-      none = h.none;
-      behind = h.behind;
-      least = (let a = h.low in omega arith);
-      loaded = λ r l m. absurd (omega arith);
-      begins = h.begins;
-      edges = h.edges;
-      edge = inr refl;
-      each = h.each;
-    }
+    floors_begun few = grind (arith, common_steps)
 
     -- ---- a passed place is loaded
     pub floors_read : passing.loaded < x.passers
         → AreFloors x rows words (passing_fed passing (shown words passing.loaded)) receivers
         frames len floor
-    floors_read left =
-        let got = shown words passing.loaded in
-        record {
-          low = h.low;
-          none = h.none;
-          behind = h.behind;
-          least = elim (lesser_is got passing.least) [
-            | inl a ↦ (let e = a.0 in let b = h.behind passing.loaded left in omega arith)
-            | inr a ↦ (let e = a.0 in let b = h.least in omega arith)
-          ];
-          loaded = λ r l m. elim (cases_eq r passing.loaded) [
-            | inl e ↦ subst (λ n. lesser got passing.least ≤ shown words n) (sym e)
-                (elim (lesser_is got passing.least) [
-                  | inl a ↦ (let b = a.0 in omega arith)
-                  | inr a ↦ (let b = a.0 in let d = a.1 in omega arith)
-                ])
-            | inr ne ↦
-                let before = h.loaded r (omega arith) m in
-                elim (lesser_is got passing.least) [
-                  | inl a ↦ (let b = a.0 in let d = a.1 in omega arith)
-                  | inr a ↦ (let b = a.0 in omega arith)
-                ]
-          ];
-          begins = h.begins;
-          edges = h.edges;
-          edge = elim (lesser_is got passing.least) [
-            | inl a ↦ subst (λ n. IsBoundary frames n ⊎ (n ≡ PASSED_ALL)) (sym a.0)
-                (h.edges passing.loaded left)
-            | inr a ↦ subst (λ n. IsBoundary frames n ⊎ (n ≡ PASSED_ALL)) (sym a.0) h.edge
-          ];
-          each = h.each;
-        }
+    floors_read left = grind (arith, common_steps, lesser_is, cases_eq)
 
     -- and with the last one the floor rises
     abbrev risen : ℕ
@@ -245,72 +123,21 @@ module _ (x : Layout) (rows : ℕ) where
         (size : length (log_words frames) ≡ len) (few : len < NUMBERS) where
       risen_is : ((risen ≡ passing.least) × (passing.least ≤ len))
           ⊎ ((risen ≡ len) × (len ≤ passing.least))
-      risen_is = elim (lesser_is passing.least len) [
-        | inl a ↦ inl (uncut a.0 a.1, a.1)
-        | inr a ↦ inr (uncut_len a.0, a.1)
-      ] where
-        -- the greatest number cuts nothing
-        whole : (n : ℕ) → n ≤ len → lesser n NUMBERS ≡ n
-        whole n low = elim (lesser_is n NUMBERS) [
-          | inl b ↦ b.0
-          | inr b ↦ absurd (let d = b.1 in omega arith)
-        ]
-
-        uncut : lesser passing.least len ≡ passing.least → passing.least ≤ len
-            → risen ≡ passing.least
-        uncut e low = ap (λ n. lesser n NUMBERS) e ∙ whole passing.least low
-
-        uncut_len : lesser passing.least len ≡ len → risen ≡ len
-        uncut_len e = ap (λ n. lesser n NUMBERS) e ∙ whole len (omega arith)
+      risen_is = grind (arith, common_steps, lesser_is)
 
       risen_low : (risen ≤ len) × (risen ≤ passing.least)
-      risen_low = elim risen_is [
-        | inl a ↦ (let e = a.0 in let b = a.1 in (omega arith, omega arith))
-        | inr a ↦ (let e = a.0 in let b = a.1 in (omega arith, omega arith))
-      ]
+      risen_low = grind (arith, common_steps, risen_is)
 
       behind_risen : (r : ℕ) → r < x.passers → risen ≤ shown words r
       behind_risen r l =
           let a = risen_low.1 in let b = h.loaded r (omega arith) l in omega arith
 
       risen_begins : IsBoundary frames risen
-      risen_begins = elim risen_is [
-        | inl a ↦ subst (IsBoundary frames) (sym a.0) (elim h.edge [
-          | inl b ↦ b
-          | inr past ↦ absurd (let b = a.1 in omega arith)
-        ])
-        | inr a ↦ subst (IsBoundary frames) (sym (a.0 ∙ sym size)) (boundary_last frames)
-      ]
+      risen_begins = grind (arith, common_steps, risen_is, boundary_last)
 
       pub floors_risen : (floor ≤ risen)
           × AreFloors x rows words passing receivers frames len risen
-      floors_risen = (
-        elim risen_is [
-          | inl a ↦ (let e = a.0 in let b = h.least in omega arith)
-          | inr a ↦ (let e = a.0 in let b = h.low in omega arith)
-        ],
-        record {
-          low = risen_low.0;
-          none = λ flat. absurd (omega arith);
-          behind = behind_risen;
-          least = risen_low.1;
-          loaded = h.loaded;
-          begins = risen_begins;
-          edges = h.edges;
-          edge = h.edge;
-          each = λ r v e. let p = h.each r v e in record {
-            at = p.at;
-            many = p.many;
-            past = p.past;
-            behind = λ stays. elim p.many [
-              | inl none ↦ absurd (omega arith)
-              | inr one ↦ subst (λ n. risen ≤ n) (p.shows stays one) (behind_risen r one)
-            ];
-            shows = p.shows;
-            left = p.left;
-          };
-        },
-      )
+      floors_risen = grind (arith, common_steps, risen_is, behind_risen, risen_begins)
 
     -- ---- a receiver takes a turn
     module _ (r : ℕ) (v : Receiving) (there : receivers r ≡ Some v) where
@@ -357,11 +184,7 @@ module _ (x : Layout) (rows : ℕ) where
         module _ (higher : shown words r ≤ n) (edge : IsBoundary frames n ⊎ (n ≡ PASSED_ALL))
             (own : IsPasser x rows stored floor r next) where
           rises : (q : ℕ) → shown words q ≤ shown stored q
-          rises q = elim (cases_eq q r) [
-            | inl i ↦ subst (λ k. shown words k ≤ shown stored k) (sym i)
-                (let a = here in omega arith)
-            | inr ne ↦ (let a = beside q ne in omega arith)
-          ]
+          rises q = grind (arith, common_steps, cases_eq, here, beside)
 
           pub floors_stored : AreFloors x rows stored passing (put r (Some next) receivers) frames
               len floor
@@ -372,25 +195,12 @@ module _ (x : Layout) (rows : ℕ) where
             least = h.least;
             loaded = λ q l m. (let a = h.loaded q l m in let b = rises q in omega arith);
             begins = h.begins;
-            edges = λ q l. elim (cases_eq q r) [
-              | inl i ↦ subst (λ k.
-                  IsBoundary frames (shown stored k) ⊎ (shown stored k ≡ PASSED_ALL)) (sym i)
-                  (subst (λ m. IsBoundary frames m ⊎ (m ≡ PASSED_ALL)) (sym here) edge)
-              | inr ne ↦ subst (λ m. IsBoundary frames m ⊎ (m ≡ PASSED_ALL))
-                  (sym (beside q ne)) (h.edges q l)
-            ];
+            edges = λ q l. grind (arith, common_steps, cases_eq, here, beside);
             edge = h.edge;
             each = λ q w e. elim (cases_eq q r) [
               | inl i ↦ subst (λ k. IsPasser x rows stored floor k w) (sym i)
                   (subst (IsPasser x rows stored floor r) (own_now next q w i e) own)
-              | inr ne ↦ let p = h.each q w (others next q w ne e) in record {
-                at = p.at;
-                many = p.many;
-                past = p.past;
-                behind = p.behind;
-                shows = λ stays l. beside q ne ∙ p.shows stays l;
-                left = λ gone l. beside q ne ∙ p.left gone l;
-              }
+              | inr ne ↦ grind (arith, common_steps, others, beside)
             ];
           }
 
@@ -414,47 +224,8 @@ module _ (x : Layout) (rows : ℕ) where
           (own : IsPasser x rows joined floor j next) where
         pub floors_joined : AreFloors x rows joined passing (put j (Some next) receivers) frames
             len floor
-        floors_joined = record {
-          low = h.low;
-          none = h.none;
-          behind = λ q l. elim (cases_eq q j) [
-            | inl i ↦ subst (λ k. floor ≤ shown joined k) (sym i)
-                (subst (λ m. floor ≤ m) (sym joined_here) past)
-            | inr ne ↦ subst (λ m. floor ≤ m) (sym (joined_beside q ne)) (h.behind q l)
-          ];
-          least = h.least;
-          loaded = λ q l m. elim (cases_eq q j) [
-            | inl i ↦ subst (λ k. passing.least ≤ shown joined k) (sym i)
-                (subst (λ k. passing.least ≤ k) (sym joined_here)
-                (seen (subst (λ k. k < passing.loaded) i l)))
-            | inr ne ↦ subst (λ k. passing.least ≤ k) (sym (joined_beside q ne)) (h.loaded q l m)
-          ];
-          begins = h.begins;
-          edges = λ q l. elim (cases_eq q j) [
-            | inl i ↦ subst (λ k.
-                IsBoundary frames (shown joined k) ⊎ (shown joined k ≡ PASSED_ALL)) (sym i)
-                (subst (λ m. IsBoundary frames m ⊎ (m ≡ PASSED_ALL)) (sym joined_here) edge)
-            | inr ne ↦ subst (λ m. IsBoundary frames m ⊎ (m ≡ PASSED_ALL))
-                (sym (joined_beside q ne)) (h.edges q l)
-          ];
-          edge = h.edge;
-          each = λ q w e. elim (cases_eq q j) [
-            | inl i ↦
-                let w_is : next ≡ w = same_Some _ _
-                (sym (ap (put j (Some next) receivers) i ∙ put_here j (Some next) receivers) ∙ e) in
-                subst (λ k. IsPasser x rows joined floor k w) (sym i)
-                (subst (IsPasser x rows joined floor j) w_is own)
-            | inr ne ↦
-                let p = h.each q w (sym (put_beside j (Some next) receivers q ne) ∙ e) in record {
-                  at = p.at;
-                  many = p.many;
-                  past = p.past;
-                  behind = p.behind;
-                  shows = λ stays l. joined_beside q ne ∙ p.shows stays l;
-                  left = λ gone l. joined_beside q ne ∙ p.left gone l;
-                }
-          ];
-        }
+        floors_joined =
+            grind (arith, cases_eq, joined_here, joined_beside, same_Some, put_here, put_beside)
 
     -- A receiver i that has not left gives a place of its own to a higher number. Passed places are
     -- loaded in rising order: a holder that has loaded that of j has loaded that of i, which has
@@ -499,7 +270,4 @@ module _ (x : Layout) (rows : ℕ) where
     -- what a passed place shows is at most the number that stands for all words
     pub shown_low : length (log_words frames) ≡ len → len < NUMBERS → (r : ℕ) → r < x.passers
         → shown words r ≤ PASSED_ALL
-    shown_low size few r l = elim (h.edges r l) [
-      | inl b ↦ (let a = boundary_low frames (shown words r) b in omega arith)
-      | inr all ↦ omega arith
-    ]
+    shown_low size few r l = grind (arith, common_steps, boundary_low)

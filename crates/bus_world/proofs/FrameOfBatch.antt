@@ -1,6 +1,7 @@
 -- The frame of a batch.
-use Rattle.std.proofs.Common.{◌≡◌, ℕ, ◌+◌, List, [], ◌∷◌, length, map, refl, sym, ◌∙◌, ap}
+use Rattle.std.proofs.Common.{◌≡◌, ℕ, ◌+◌, List, [], ◌∷◌, length, map, refl, sym, ap, arith}
 use Rattle.std.proofs.lemmas.List.{length-map}
+use Rattle.std.proofs.lemmas.Grind.{common_steps}
 use Rattle.bus_register.specs.declared.registers.SenderNo.{SenderNo}
 use Rattle.bus_batch.specs.Messages.{numbered_messages}
 use Rattle.bus_batch.specs.declared.messages.Mark.TheVariants as mark
@@ -29,13 +30,9 @@ counted_frame q t = counted_at q.phase q
 
 items_at : (ph : Phase) (q : Pending) → q.phase ≡ ph → IsKept q
     → length (body_items q.sender (body_of ph q.first q.messages)) ≡ length q.messages
-items_at Open q e is =
-    length-map (numbered_messages q.first q.messages) (item_of q.sender)
-    ∙ length-numbered q.first q.messages
+items_at Open q e is = grind (arith, common_steps, length-map, length-numbered)
 items_at (Marking m) q e is = sym (ap length (is.alone m e))
-items_at Closed q e is =
-    length-map (numbered_messages q.first q.messages) (item_of q.sender)
-    ∙ length-numbered q.first q.messages
+items_at Closed q e is = grind (arith, common_steps, length-map, length-numbered)
 
 -- as many items as messages
 pub length-items : (q : Pending) (t : ℕ) → IsKept q

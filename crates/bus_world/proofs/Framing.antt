@@ -5,7 +5,7 @@ use Rattle.std.proofs.Common.{subst}
 use Rattle.std.specs.Prelude.{All, ◌||◌}
 use Rattle.std.specs.List.{list_any}
 use Rattle.std.proofs.lemmas.Bool.{eq-eqb, false≢true, or_right}
-use Rattle.std.proofs.lemmas.Grind.{flat_map-append}
+use Rattle.std.proofs.lemmas.Grind.{flat_map-append, common_steps}
 use Rattle.std.proofs.lemmas.List.{length-append, length-map, map-append, get_or_append_left}
 use Rattle.std.proofs.lemmas.Option.{same_Some, slice_get_within, get_or_from_slice_get}
 use Rattle.std.proofs.lemmas.List.Elements.{All-map}
@@ -76,12 +76,7 @@ says_apart i s e = cc
 said_at : (o : SenderNo) (b : Body) (ms : List Numbered) (k : ℕ) (e : Entry)
     → slice_get (map (λ m. Says (item_of o m)) ms) k ≡ Some e → IsEntryOf o b k e
 said_at o b [] k e at = absurd (none_in k e at)
-said_at o b (m ∷ ms) zero e at =
-    let same : Says (item_of o m) ≡ e = same_Some _ _ at in
-    record {
-      own = ap sender_of (sym same);
-      left = λ s i. absurd (says_apart (item_of o m) s (same ∙ i));
-    }
+said_at o b (m ∷ ms) zero e at = grind (arith, common_steps, same_Some, says_apart)
 said_at o b (m ∷ ms) (suc k) e at =
     let r = said_at o b ms k e at in record { own = r.own; left = r.left }
 
@@ -89,10 +84,7 @@ entry_at : (o : SenderNo) (b : Body) (k : ℕ) (e : Entry) → slice_get (body_e
     → IsEntryOf o b k e
 entry_at o (Messages ms) k e at = said_at o (Messages ms) ms k e at
 entry_at o (Marked mark.End) k e at = absurd (none_in k e at)
-entry_at o (Marked mark.Leave) zero e at = record {
-  own = ap sender_of (sym (same_Some _ _ at));
-  left = λ s i. refl;
-}
+entry_at o (Marked mark.Leave) zero e at = grind (arith, common_steps, same_Some)
 entry_at o (Marked mark.Leave) (suc k) e at = absurd (none_in k e at)
 
 pub entry_of : (fs : List Frame) (k : ℕ) (e : Entry) → slice_get (order_of fs).entries k ≡ Some e
@@ -111,9 +103,7 @@ entry_of (f ∷ fs) k e at = elim (got_split (entries_of f) (order_of fs).entrie
 marked_gone : (entries : List Entry) (k : ℕ) (s : SenderNo) → slice_get entries k ≡ Some (Leaves s)
     → list_any (is_leave_of s.0) entries ≡ true
 marked_gone [] k s at = absurd (none_in k (Leaves s) at)
-marked_gone (e ∷ entries) zero s at =
-    ap (λ z. is_leave_of s.0 z || list_any (is_leave_of s.0) entries) (same_Some e (Leaves s) at)
-    ∙ ap (λ b. b || list_any (is_leave_of s.0) entries) (eq-eqb s.0 s.0 refl)
+marked_gone (e ∷ entries) zero s at = grind (arith, common_steps, same_Some, eq-eqb)
 marked_gone (e ∷ entries) (suc k) s at =
     or_right (is_leave_of s.0 e) (list_any (is_leave_of s.0) entries) (marked_gone entries k s at)
 
@@ -238,7 +228,4 @@ order_grows senders frames more lawful = subst (λ z. IsPrefixOfOrder z (order_o
 
 pub owners_grow : (frames more : List Frame)
     → IsPrefix (map tenure_and_owner frames) (map tenure_and_owner (frames ++ more))
-owners_grow frames more = record {
-  rest = map tenure_and_owner more;
-  together = sym (map-append tenure_and_owner frames more);
-}
+owners_grow frames more = grind (arith, common_steps, map, map-append)

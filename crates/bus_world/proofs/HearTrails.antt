@@ -7,7 +7,7 @@ use Rattle.std.specs.List.{list_any}
 use Rattle.std.proofs.Math.Bool.{or-false}
 use Rattle.std.proofs.lemmas.Bool.{cases_eq, cases_lt, or_right}
 use Rattle.std.proofs.lemmas.Bool.Decides.{eqb_tells}
-use Rattle.std.proofs.lemmas.Grind.{flat_map-append}
+use Rattle.std.proofs.lemmas.Grind.{flat_map-append, common_steps}
 use Rattle.std.proofs.lemmas.List.{append-nil, length-append, take-append-le, take-append-drop}
 use Rattle.std.proofs.lemmas.List.{take_more}
 use Rattle.std.proofs.lemmas.List.Folds.{list_any-append}
@@ -15,8 +15,8 @@ use Rattle.std.proofs.lemmas.Option.{same_Some, slice_get_within, get_or_from_sl
 use Rattle.bus_batch.specs.declared.messages.Piece.{Piece}
 use Rattle.bus_batch.specs.declared.messages.Piece.TheVariants as piece
 use Rattle.bus_batch.specs.Frames.{Frame, Order, Entry, AreFrames, log_words, log_pieces}
-use Rattle.bus_batch.specs.Frames.{frame_words, frame_pieces, order_of, order_in, owners_in}
-use Rattle.bus_batch.specs.Frames.{piece_entries, piece_owners, is_end, tenure_and_owner}
+use Rattle.bus_batch.specs.Frames.{frame_words, order_of, order_in, owners_in, piece_entries}
+use Rattle.bus_batch.specs.Frames.{piece_owners, is_end, tenure_and_owner}
 use Rattle.bus_batch.proofs.PieceLaws.{owners_in-log}
 use Rattle.bus_deliverylog.specs.Orders.{IsPrefixOfOrder}
 use Rattle.bus_deliverylog.specs.Receiving.{Receiving, LogReading, turn_of, passing_due}
@@ -31,7 +31,6 @@ use Rattle.bus_world.proofs.Tying.{Hears, IsSilent, WasTold}
 use Rattle.bus_world.specs.Trails.{answers_joined}
 use Rattle.bus_world.specs.World.{RecvDoes, RecvStep, recv_found}
 use Rattle.bus_world.specs.Private.Receiving.{Receives, IsFoundIn}
-use Rattle.bus_world.specs.Private.Invariants.{given_at}
 use Rattle.bus_world.proofs.WorldLaws.{received}
 
 -- ---- what one answer adds
@@ -41,35 +40,25 @@ more_order o entries ended = record { entries = o.entries ++ entries; ended = o.
 pub order_so : (entries entries' : List Entry) (a b : Bool) → entries ≡ entries' → a ≡ b
     → ◌≡◌ {A = Order} (record { entries = entries; ended = a })
     (record { entries = entries'; ended = b })
-order_so entries entries' a b e f =
-    ap (λ z. record { entries = z; ended = a }) e
-    ∙ ap (λ z. record { entries = entries'; ended = z }) f
+order_so entries entries' a b e f = cc
 
 pub given_more : (trail : List RecvTurn) (a : RecvTurn)
     → order_given (trail ++ a ∷ []) ≡ more_order (order_given trail) (entry_heard a) (end_heard a)
-given_more trail a = order_so _ _ _ _ (flat_map-append entry_heard trail (a ∷ [])
-    ∙ ap (λ z. flat_map entry_heard trail ++ z) (append-nil (entry_heard a)))
-    (list_any-append end_heard trail (a ∷ [])
-    ∙ ap (λ z. list_any end_heard trail || z) (or-false (end_heard a)))
+given_more trail a =
+    grind (arith, order_so, flat_map-append, flat_map, append-nil, list_any-append, or-false)
 
 pub heads_more : (trail : List RecvTurn) (a : RecvTurn)
     → heads (trail ++ a ∷ []) ≡ heads trail ++ head_heard a
-heads_more trail a =
-    flat_map-append head_heard trail (a ∷ [])
-    ∙ ap (λ z. flat_map head_heard trail ++ z) (append-nil (head_heard a))
+heads_more trail a = grind (arith, common_steps, flat_map-append, flat_map, append-nil)
 
 pub order_more : (pieces : List (Option Piece)) (p : Option Piece)
     → order_in (pieces ++ p ∷ []) ≡ more_order (order_in pieces) (piece_entries p) (is_end p)
-order_more pieces p = order_so _ _ _ _ (flat_map-append piece_entries pieces (p ∷ [])
-    ∙ ap (λ z. flat_map piece_entries pieces ++ z) (append-nil (piece_entries p)))
-    (list_any-append is_end pieces (p ∷ [])
-    ∙ ap (λ z. list_any is_end pieces || z) (or-false (is_end p)))
+order_more pieces p =
+    grind (arith, order_so, flat_map-append, flat_map, append-nil, list_any-append, or-false)
 
 pub owners_more : (pieces : List (Option Piece)) (p : Option Piece)
     → owners_in (pieces ++ p ∷ []) ≡ owners_in pieces ++ piece_owners p
-owners_more pieces p =
-    flat_map-append piece_owners pieces (p ∷ [])
-    ∙ ap (λ z. flat_map piece_owners pieces ++ z) (append-nil (piece_owners p))
+owners_more pieces p = grind (arith, common_steps, flat_map-append, flat_map, append-nil)
 
 -- an answer tells its piece
 pub entry_told : (p : Option Piece) → entry_heard (turn_of p) ≡ piece_entries p
@@ -104,17 +93,7 @@ or_left false b e = absurd cc
 pub hears_later : (frames more : List Frame) (v : Receiving) (trail : List RecvTurn)
     → v.place ≤ length (log_words frames) → Hears frames v trail → Hears (frames ++ more) v trail
 hears_later frames more v trail l h =
-    let size = length-log_pieces frames in
-    let front : take v.place (log_pieces (frames ++ more)) ≡ take v.place (log_pieces frames) =
-    ap (take v.place) (flat_map-append frame_pieces frames more)
-    ∙ take-append-le v.place (log_pieces frames) (log_pieces more) (omega arith) in
-    record {
-      given_is = h.given_is ∙ ap order_in (sym front);
-      heads_are = h.heads_are ∙ ap owners_in (sym front);
-      ended = h.ended;
-      going = h.going;
-      silent = h.silent;
-    }
+    grind (arith, common_steps, length-log_pieces, take, flat_map-append, take-append-le)
 
 -- answers of nobody stay answers of nobody
 pub told_later : (frames more : List Frame) (trail : List RecvTurn) → WasTold frames trail
@@ -131,13 +110,7 @@ told_later frames more trail told = elim told [
 -- ---- a receiver that has left for good
 pub hears_left : (frames : List Frame) (v : Receiving) (trail : List RecvTurn)
     → Hears frames v trail → Hears frames (with_leave v) trail
-hears_left frames v trail h = record {
-  given_is = h.given_is;
-  heads_are = h.heads_are;
-  ended = h.ended;
-  going = h.going;
-  silent = h.silent;
-}
+hears_left frames v trail h = assumption
 
 -- ---- after the end
 end_given : (trail : List RecvTurn) (j : ℕ) → slice_get trail j ≡ Some heard.End
@@ -149,22 +122,8 @@ end_given (x ∷ trail) (suc j) e =
 
 silent_more : (trail : List RecvTurn) (answer : RecvTurn) → IsSilent trail
     → (answer ≡ heard.End) ⊎ ((order_given trail).ended ≡ false) → IsSilent (trail ++ answer ∷ [])
-silent_more trail answer h how j k a at l here = elim (got_split trail (answer ∷ []) k a here) [
-  | inl old ↦ elim (got_split trail (answer ∷ []) j heard.End at) [
-    | inl first ↦ h j k a first l old
-    | inr r ↦ absurd (let within = slice_get_within trail k a old in let past = r.1 in omega arith)
-  ]
-  | inr new ↦
-      let one = only_one answer new.0 a new.2 in
-      elim (got_split trail (answer ∷ []) j heard.End at) [
-        | inl first ↦ elim how [
-          | inl ends ↦ sym one.1 ∙ ends
-          | inr goes ↦ absurd (let z = sym (end_given trail j first) ∙ goes in cc)
-        ]
-        | inr r ↦ absurd (let a' = (only_one answer r.0 heard.End r.2).0 in
-            let b = one.0 in let p = r.1 in let q = new.1 in omega arith)
-      ]
-]
+silent_more trail answer h how j k a at l here =
+    grind (arith, common_steps, got_split, slice_get_within, only_one, end_given)
 
 -- an answer that tells nothing, of a receiver that stays where it is
 record Tells_nothing (v next : Receiving) (answer : RecvTurn) : Type 0 where
@@ -177,21 +136,7 @@ record Tells_nothing (v next : Receiving) (answer : RecvTurn) : Type 0 where
 module _ (frames : List Frame) (v : Receiving) (trail : List RecvTurn) (h : Hears frames v trail)
     (answer : RecvTurn) (next : Receiving) where
   quiet : v.ended ≡ false → Tells_nothing v next answer → Hears frames next (trail ++ answer ∷ [])
-  quiet on q =
-      let same : order_given (trail ++ answer ∷ []) ≡ order_given trail =
-      given_more trail answer
-      ∙ ap (λ z. more_order (order_given trail) z (end_heard answer)) q.entries
-      ∙ ap (more_order (order_given trail) []) q.ends ∙ nothing_more (order_given trail) in
-      record {
-        given_is =
-            same ∙ h.given_is ∙ ap (λ z. order_in (take z (log_pieces frames))) (sym q.place);
-        heads_are =
-            heads_more trail answer ∙ ap (λ z. heads trail ++ z) q.head ∙ append-nil (heads trail)
-            ∙ h.heads_are ∙ ap (λ z. owners_in (take z (log_pieces frames))) (sym q.place);
-        ended = λ e. ap (λ (z : Order). z.ended) same ∙ h.ended (sym q.ended ∙ e);
-        going = λ e. ap (λ (z : Order). z.ended) same ∙ h.going (sym q.ended ∙ e);
-        silent = silent_more trail answer h.silent (inr (h.going on));
-      }
+  quiet on q = grind (arith, given_more, nothing_more, take, heads_more, append-nil, silent_more)
 
   -- it has the next piece
   good : v.ended ≡ false → (found : Option Piece)
@@ -210,45 +155,17 @@ module _ (frames : List Frame) (v : Receiving) (trail : List RecvTurn) (h : Hear
       ap entry_heard told ∙ entry_told found in
       let ends : end_heard answer ≡ is_end found = ap end_heard told ∙ end_told found in
       record {
-        given_is =
-            given_more trail answer
-            ∙ ap (λ z. more_order z (entry_heard answer) (end_heard answer)) h.given_is
-            ∙ ap (λ z. more_order (given_at frames v) z (end_heard answer)) entries
-            ∙ ap (more_order (given_at frames v) (piece_entries found)) ends
-            ∙ sym (order_more (take v.place (log_pieces frames)) found) ∙ ap order_in (sym pieces);
-        heads_are =
-            heads_more trail answer ∙ ap (λ z. z ++ head_heard answer) h.heads_are
-            ∙ ap (λ z. owners_in (take v.place (log_pieces frames)) ++ z)
-            (ap head_heard told ∙ head_told found)
-            ∙ sym (owners_more (take v.place (log_pieces frames)) found)
-            ∙ ap owners_in (sym pieces);
-        ended = λ e.
-            ap (λ (z : Order). z.ended) (given_more trail answer)
-            ∙ or_right (order_given trail).ended (end_heard answer) (ends ∙ sym ended_is ∙ e);
-        going = λ e.
-            ap (λ (z : Order). z.ended) (given_more trail answer)
-            ∙ ap (λ z. z || end_heard answer) (h.going on) ∙ ends ∙ sym ended_is ∙ e;
+        given_is = grind (arith, common_steps, given_more, order_more, take);
+        heads_are = grind (arith, common_steps, heads_more, take, head_told, owners_more);
+        ended = λ e. grind (arith, common_steps, given_more, or_right);
+        going = λ e. grind (arith, common_steps, given_more);
         silent = silent_more trail answer h.silent (inr (h.going on));
       }
 
   -- after the end it hears of it again
   again : v.ended ≡ true → answer ≡ heard.End → next ≡ v → Hears frames next (trail ++ answer ∷ [])
   again e told same =
-      let still : order_given (trail ++ answer ∷ []) ≡ order_given trail =
-      given_more trail answer
-      ∙ ap (λ z. more_order (order_given trail) (entry_heard z) (end_heard z)) told
-      ∙ order_so _ _ _ _ (append-nil (order_given trail).entries)
-      (or_left (order_given trail).ended true (h.ended e)) in
-      record {
-        given_is = still ∙ h.given_is ∙ ap (λ (z : Receiving). given_at frames z) (sym same);
-        heads_are =
-            heads_more trail answer ∙ ap (λ z. heads trail ++ head_heard z) told
-            ∙ append-nil (heads trail) ∙ h.heads_are
-            ∙ ap (λ (z : Receiving). owners_in (take z.place (log_pieces frames))) (sym same);
-        ended = λ i. ap (λ (z : Order). z.ended) still ∙ h.ended e;
-        going = λ i. absurd (let z = sym e ∙ sym (ap (λ (w : Receiving). w.ended) same) ∙ i in cc);
-        silent = silent_more trail answer h.silent (inl told);
-      }
+      grind (arith, given_more, order_so, append-nil, or_left, heads_more, take, silent_more)
 
 -- of frames whose words are so many, by the number that it finds
 module _ (n : ℕ) (frames : List Frame) (len : ℕ) (lawful : AreFrames n frames)
@@ -258,13 +175,7 @@ module _ (n : ℕ) (frames : List Frame) (len : ℕ) (lawful : AreFrames n frame
   -- it is told to go on, and stays where it is
   goes : v.ended ≡ false → answer ≡ heard.Going → next.place ≡ v.place → next.ended ≡ v.ended
       → Hears frames next (trail ++ answer ∷ [])
-  goes on a b d = quiet frames v trail h answer next on record {
-    entries = ap entry_heard a;
-    ends = ap end_heard a;
-    head = ap head_heard a;
-    place = b;
-    ended = d;
-  }
+  goes on a b d = grind (arith, common_steps, quiet)
 
   -- the same, where nothing else changes
   rests : v.ended ≡ false → (answer ≡ heard.Going) × (next ≡ v)
@@ -276,29 +187,7 @@ module _ (n : ℕ) (frames : List Frame) (len : ℕ) (lawful : AreFrames n frame
       (step : RecvStep v got answer next) where
     hears_length : passing_due v ≡ None → v.place ≡ v.known
         → Hears frames next (trail ++ answer ∷ [])
-    hears_length none e =
-        let t = step.at_length none e in
-        elim (cases_lt v.known got) [
-          | inl l ↦ elim (cases_lt (v.log_words + v.passed) got) [
-            | inl beyond ↦ rests on (t.beyond l beyond)
-            | inr within ↦
-                (let a = t.more l within in
-                goes on a.0 (ap (λ (z : Receiving). z.place) a.1)
-                (ap (λ (z : Receiving). z.ended) a.1))
-          ]
-          | inr g ↦ elim (cases_eq got v.known) [
-            | inl i ↦
-                (let a = t.same i in
-                quiet frames v trail h answer next on record {
-                  entries = ap entry_heard a.0;
-                  ends = ap end_heard a.0;
-                  head = ap head_heard a.0;
-                  place = ap (λ (z : Receiving). z.place) a.1;
-                  ended = ap (λ (z : Receiving). z.ended) a.1;
-                })
-            | inr ne ↦ rests on (t.less (omega arith))
-          ]
-        ]
+    hears_length none e = grind (arith, common_steps, cases_lt, rests, goes, cases_eq, quiet)
 
     hears_word : passing_due v ≡ None → v.place ≢ v.known
         → Hears frames next (trail ++ answer ∷ [])
@@ -322,13 +211,8 @@ module _ (n : ℕ) (frames : List Frame) (len : ℕ) (lawful : AreFrames n frame
         ]
 
     hears_step : (o : Option ℕ) → passing_due v ≡ o → Hears frames next (trail ++ answer ∷ [])
-    hears_step None none = elim (cases_eq v.place v.known) [
-      | inl e ↦ hears_length none e
-      | inr ne ↦ hears_word none ne
-    ]
-    hears_step (Some at) due =
-        let a = step.at_passed at due in
-        goes on a.0 (ap (λ (z : Receiving). z.place) a.1) (ap (λ (z : Receiving). z.ended) a.1)
+    hears_step None none = grind (arith, cases_eq, hears_length, hears_word)
+    hears_step (Some at) due = grind (arith, common_steps, goes)
 
   pub hears_more : (words : ℕ → ℕ) → IsFoundIn frames len v (recv_found words v)
       → RecvDoes words v answer next → Hears frames next (trail ++ answer ∷ [])
@@ -349,40 +233,19 @@ module _ (Each : Receiving → List RecvTurn → Type 0) (Silent : List RecvTurn
     (nobody : old n ≡ None) (before : List RecvTurn) where
   -- its number has these answers, and each other but n those that it had
   at_number : (q : ℕ) → q ≡ j → before ≡ answers_joined before j n H q
-  at_number q i = elim (eqb_tells q j) [
-    | inl y ↦ sym (ap (λ t. cond t before (cond (q == n) (H j) (H q))) y.0)
-    | inr y ↦ absurd (y.1 i)
-  ]
+  at_number q i = grind (arith, common_steps, eqb_tells)
 
   at_others : (q : ℕ) → q ≢ j → cond (q == n) (H j) (H q) ≡ answers_joined before j n H q
-  at_others q ne = elim (eqb_tells q j) [
-    | inl y ↦ absurd (ne y.1)
-    | inr y ↦ sym (ap (λ t. cond t before (cond (q == n) (H j) (H q))) y.0)
-  ]
+  at_others q ne = grind (arith, common_steps, eqb_tells)
 
   pub each_joined : Each next before → (q : ℕ) (u : Receiving) → new q ≡ Some u
       → Each u (answers_joined before j n H q)
-  each_joined joins q u e = elim (cases_eq q j) [
-    | inl i ↦ subst (Each u) (at_number q i)
-        (subst (λ s. Each s before) (same_Some _ _ (sym (ap new i ∙ here) ∙ e)) joins)
-    | inr ne ↦
-        let there = sym (beside q ne) ∙ e in
-        subst (Each u) (at_others q ne) (elim (eqb_tells q n) [
-          | inl y ↦ absurd (let bad : None ≡ Some u = sym nobody ∙ ap old (sym y.1) ∙ there in cc)
-          | inr y ↦ subst (λ t. Each u (cond t (H j) (H q))) (sym y.0) (each q u there)
-        ])
-  ]
+  each_joined joins q u e =
+      grind (arith, common_steps, cases_eq, at_number, same_Some, at_others, eqb_tells)
 
   pub silent_joined : Silent (H j) → (q : ℕ) → new q ≡ None
       → Silent (answers_joined before j n H q)
-  silent_joined was q e = elim (cases_eq q j) [
-    | inl i ↦ absurd (let bad : None ≡ Some next = sym e ∙ ap new i ∙ here in cc)
-    | inr ne ↦ subst Silent (at_others q ne) (elim (eqb_tells q n) [
-      | inl y ↦ subst (λ t. Silent (cond t (H j) (H q))) (sym y.0) was
-      | inr y ↦ subst (λ t. Silent (cond t (H j) (H q))) (sym y.0)
-          (silent q (sym (beside q ne) ∙ e))
-    ])
-  ]
+  silent_joined was q e = grind (arith, common_steps, cases_eq, at_others, eqb_tells)
 
 -- ---- what is promised of answers
 -- a receiver has been told what stands below its place; who is none was told nothing

@@ -8,6 +8,7 @@ use Rattle.std.proofs.lemmas.List.{take_more, get_or-set_same, get_or-set_other}
 use Rattle.std.proofs.Math.ListN.{length-set}
 use Rattle.std.proofs.Math.Seq.{take-length}
 use Rattle.std.proofs.lemmas.Option.{same_Some}
+use Rattle.std.proofs.lemmas.Grind.{common_steps}
 use Rattle.bus_register.specs.declared.limits.TheConstants.{MOST_SENDERS}
 use Rattle.bus_register.specs.declared.registers.SenderNo.{SenderNo}
 use Rattle.bus_register.specs.Tables.{of_some, Beside}
@@ -89,14 +90,7 @@ module _ {E : Type 0} (X : Election E) (P : Protocol E (Unit {0}) ℕ)
 
         -- where no word of the log is used again
         pub floor_flat : x.passers ≡ 0 → KeepsFloor page
-        floor_flat flat = by published (subst (Fits base words frames c) holds own_part.fits) where
-          own_flat : c.layout.passers ≡ 0
-          own_flat = ap (λ (z : Layout). z.passers) own_part.layout ∙ flat
-
-          by : (b : Bool) → Fits base words frames c (phase.Holding t page stored b)
-              → KeepsFloor page
-          by true f = f.1.flat own_flat
-          by false f = f.1.flat own_flat
+        floor_flat flat = grind (arith, common_steps, own_part)
 
         -- ── it stores the next word of its frame ──
         module _ (words' : ℕ → ℕ) (none_yet : published ≡ false) (is_open : page.ended ≡ false)
@@ -111,9 +105,7 @@ module _ {E : Type 0} (X : Election E) (P : Protocol E (Unit {0}) ℕ)
               (subst (Fits base words frames c) holds own_part.fits)
 
           place : log_at c.layout + page.words + stored ≡ log_at x + words 0 + stored
-          place =
-              ap (λ z. log_at z + page.words + stored) own_part.layout
-              ∙ ap (λ z. log_at x + z + stored) writing.1.page_knows.words
+          place = grind (arith, common_steps, own_part, writing)
 
           past : (r : ℕ) → r < log_at x + words 0 + stored → words' r ≡ words r
           past r l = elsewhere r (let e = place in omega arith)
@@ -188,15 +180,7 @@ module _ {E : Type 0} (X : Election E) (P : Protocol E (Unit {0}) ℕ)
 
             knows_raised : (fs : List Frame) (past len : ℕ) → Knows base page fs past len
                 → Knows base raised fs past len
-            knows_raised fs past len k = record {
-              entries = k.entries;
-              next = k.next;
-              left = k.left;
-              ended = k.ended;
-              tenures = k.tenures;
-              words = k.words;
-              floor = low;
-            }
+            knows_raised fs past len k = assumption
 
             never_flat : c.layout.passers ≡ 0 → ⊥
             never_flat flat = again (sym (ap (λ (z : Layout). z.passers) own_part.layout) ∙ flat)
@@ -205,42 +189,12 @@ module _ {E : Type 0} (X : Election E) (P : Protocol E (Unit {0}) ℕ)
                 → Fits base words frames
                 (record c { phase = phase.Holding t raised stored published })
                 (phase.Holding t raised stored b)
-            fits_raised false f = (
-              f.0,
-              let w = f.1 in
-                  record {
-                    goes_on = w.goes_on;
-                    page_knows = knows_raised frames t (words 0) w.page_knows;
-                    earlier = w.earlier;
-                    stored_below = w.stored_below;
-                    flat = λ flat. absurd (never_flat flat);
-                    allowed = λ some.
-                        let a = w.allowed some in (a.0, (let b = a.1 in omega arith));
-                    words_are = w.words_are;
-                  },
-            )
-            fits_raised true f = (
-              f.0,
-              let w = f.1 in
-                  record {
-                    front = w.front;
-                    frames_are = w.frames_are;
-                    goes_on = w.goes_on;
-                    page_knows = knows_raised w.front t page.words w.page_knows;
-                    flat = λ flat. absurd (never_flat flat);
-                    earlier = w.earlier;
-                    is_open = w.is_open;
-                    len_is = w.len_is;
-                  },
-            )
+            fits_raised false f = grind (arith, common_steps, knows_raised, never_flat)
+            fits_raised true f = grind (arith, common_steps, knows_raised, never_flat)
 
             pub raises : Sending base P x words home senders' owners frames
             raises = record {
-              tenures = tenures.same X.op X.fed P laws x.senders x.rows 2 words (words 1)
-                  (is_some home) S L owners h.tenures words (words 1) (is_some home) S' L' owners
-                  (λ r a b. refl) refl refl
-                  (S-same (ap (λ z. stands_at z.phase) goes ∙ sym (ap stands_at holds)))
-                  (L-same (ap (λ z. z.least) goes)) refl;
+              tenures = grind (arith, common_steps, tenures.same, is_some);
               log = h.log;
               owned = h.owned;
               page_knows = h.page_knows;
@@ -287,11 +241,7 @@ module _ {E : Type 0} (X : Election E) (P : Protocol E (Unit {0}) ℕ)
           whole : words_read_from words (log_at x + words 0) (length (frame_words f))
               ≡ frame_words f
           whole =
-              ap (λ z. words_read_from words (log_at z + words 0) (length (frame_words f)))
-              (sym own_part.layout)
-              ∙ ap (words_read_from words (log_at c.layout + words 0)) (sym all_stored)
-              ∙ written.1.words_are
-              ∙ ap (λ z. take z (frame_words f)) all_stored ∙ take-length (frame_words f)
+              grind (arith, common_steps, length, own_part, all_stored, written, take, take-length)
 
           len_now : words' 0 ≡ words 0 + length (frame_words f)
           len_now = word ∙ ap (λ z. z + frame_len c) written.1.page_knows.words
@@ -303,16 +253,11 @@ module _ {E : Type 0} (X : Election E) (P : Protocol E (Unit {0}) ℕ)
               (counted_frame c.queue t)
 
           has_stayed : has_gone f.owner.0 (order_of frames) ≡ false
-          has_stayed = subst (λ z. has_gone z (order_of frames) ≡ false)
-              (own_part.me ∙ sym sender_is)
-              (still_here base frames c written.1.goes_on written.0.is_open)
+          has_stayed = grind (arith, common_steps, own_part, sender_is, still_here, written)
 
           -- where no word of the log is used again
           fits_flat : x.passers ≡ 0 → words 0 + length (frame_words f) ≤ x.capacity
-          fits_flat flat =
-              let floor = floor_flat flat in
-              let a = written.1.page_knows.words in
-              let b = ap (λ (z : Layout). z.capacity) own_part.layout in omega arith
+          fits_flat flat = grind (arith, common_steps, floor_flat, written, own_part)
 
           pub publishes : Sending base P x words' home senders' owners (frames ++ f ∷ [])
           publishes = record {
@@ -376,15 +321,7 @@ module _ {E : Type 0} (X : Election E) (P : Protocol E (Unit {0}) ℕ)
                 (Logged-agree x words (words 0) frames h.log words'
                 (λ r a b. elsewhere r (omega arith)));
             owned = h.owned;
-            page_knows = λ g u a b.
-                let g_is : page_after c t page reason ≡ g = same_Some _ _ a in
-                let u_is : t + 1 ≡ u = omega arith in (
-                  subst (λ z. Knows base z frames u (words' 0)) g_is
-                      (subst (λ z. Knows base (page_after c t page reason) frames z (words' 0)) u_is
-                      (Knows-len (page_after c t page reason) frames (t + 1) (words 0) (words' 0)
-                      (elsewhere 0 (omega arith)) knows_now)),
-                  subst (λ z. AreEarlier z frames) u_is earlier_now,
-                );
+            page_knows = λ g u a b. grind (arith, common_steps, same_Some, Knows-len);
             flat_home = λ flat g a.
                 subst KeepsFloor (same_Some _ _ a) (floor_after c t page reason ∙ floor_flat flat);
             parts = parts_from words' frames (others_agree words'
@@ -461,30 +398,19 @@ module _ {E : Type 0} (X : Election E) (P : Protocol E (Unit {0}) ℕ)
               record {
                 entries = length-set page.next c.me (next_of c.queue) ∙ k.entries;
                 next = λ s l. elim (cases_eq s c.me) [
-                  | inl i ↦
-                      ap (slice_index (slice_set page.next c.me (next_of c.queue))) i
-                      ∙ get_or-set_same page.next c.me (next_of c.queue) 0
-                      (let a = k.entries in omega arith) ∙ base_now
-                      ∙ ap (λ z. next_number base z frames) (sym i)
+                  | inl i ↦ grind (arith, common_steps, slice_index, slice_set, get_or-set_same)
                   | inr ne ↦
                       get_or-set_other page.next c.me s (next_of c.queue) 0 ne ∙ k.next s l
                       ∙ sym (next-append_other base s w.1.front f (λ e. ne (e ∙ me_is)))
                       ∙ ap (next_number base s) (sym w.1.frames_are)
                 ];
                 left = λ s l. elim (cases_eq s c.me) [
-                  | inl i ↦
-                      ap (slice_get (page_after c t page Sent).left) i
-                      ∙ noted_own page.left c.me (is_leaving c.queue.phase)
-                      (k.left c.me small ∙ ap Some stayed) ∙ ap Some (sym gone_now)
-                      ∙ ap (λ z. Some (has_gone z (order_of frames))) (sym i)
+                  | inl i ↦ grind (arith, common_steps, slice_get, noted_own)
                   | inr ne ↦
                       noted_other page.left c.me (is_leaving c.queue.phase) s ne ∙ k.left s l
                       ∙ ap Some (others_gone s ne)
                 ];
-                ended =
-                    sym (ends-body c.queue)
-                    ∙ sym (has_end-append w.1.front f (sym k.ended ∙ w.1.is_open))
-                    ∙ ap has_end (sym w.1.frames_are);
+                ended = grind (arith, common_steps, ends-body, has_end-append);
                 tenures = refl;
                 words = sym w.1.len_is;
                 floor = (let a = k.floor in omega arith);

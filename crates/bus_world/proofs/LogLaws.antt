@@ -64,11 +64,7 @@ index-read words at (suc k) i l = elim (cases_lt i k) [
   | inl below ↦
       get_or_append_left (words_read_from words at k) (words (at + k) ∷ []) 0 i
       (let z = length-read words at k in omega arith) ∙ index-read words at k i below
-  | inr past ↦
-      let size = length-read words at k in
-      let e : i ≡ length (words_read_from words at k) = omega arith in
-      ap (slice_index (words_read_from words at k ++ words (at + k) ∷ [])) e
-      ∙ last (words_read_from words at k) (words (at + k)) ∙ ap words (omega arith)
+  | inr past ↦ grind (arith, common_steps, length-read, length, slice_index, last)
 ] where
   last : (xs : List ℕ) (w : ℕ) → slice_index (xs ++ w ∷ []) (length xs) ≡ w
   last xs w = grind (arith, common_steps)
@@ -112,18 +108,13 @@ other_leave s owner (Marked mark.Leave) ne =
 gone-append : (s : ℕ) (frames : List Frame) (f : Frame)
     → has_gone s (order_of (frames ++ f ∷ []))
     ≡ (has_gone s (order_of frames) || list_any (is_leave_of s) (entries_of f))
-gone-append s frames f =
-    ap (list_any (is_leave_of s)) (flat_map-append entries_of frames (f ∷ [])
-    ∙ ap (λ z. (order_of frames).entries ++ z) (append-nil (entries_of f)))
-    ∙ list_any-append (is_leave_of s) (order_of frames).entries (entries_of f)
+gone-append s frames f = grind (arith, common_steps, flat_map-append, append-nil, list_any-append)
 
 -- by a frame its owner leaves, if anybody does
 pub gone-append_owner : (frames : List Frame) (f : Frame)
     → has_gone f.owner.0 (order_of (frames ++ f ∷ []))
     ≡ (has_gone f.owner.0 (order_of frames) || leaves f.body)
-gone-append_owner frames f =
-    gone-append f.owner.0 frames f
-    ∙ ap (λ b. has_gone f.owner.0 (order_of frames) || b) (own_leave f.owner f.body)
+gone-append_owner frames f = grind (arith, common_steps, gone-append, own_leave)
 
 pub gone-append_other : (s : ℕ) (frames : List Frame) (f : Frame) → s ≢ f.owner.0
     → has_gone s (order_of (frames ++ f ∷ [])) ≡ has_gone s (order_of frames)
@@ -135,9 +126,7 @@ gone-append_other s frames f ne =
 -- who has not left by more frames has not left by the first one
 gone_parts : (s : ℕ) (g : Frame) (frames : List Frame) → has_gone s (order_of (g ∷ frames)) ≡ false
     → (list_any (is_leave_of s) (entries_of g) ≡ false) × (has_gone s (order_of frames) ≡ false)
-gone_parts s g frames e = or_parts (list_any (is_leave_of s) (entries_of g))
-    (has_gone s (order_of frames))
-    (sym (list_any-append (is_leave_of s) (entries_of g) (order_of frames).entries) ∙ e)
+gone_parts s g frames e = grind (arith, common_steps, or_parts, list_any-append)
 
 not_its_own : (f g : Frame) → list_any (is_leave_of f.owner.0) (entries_of g) ≡ false
     → g.body ≡ Marked mark.Leave → f.owner ≢ g.owner
@@ -148,13 +137,7 @@ pub AreFramesFrom-append : (n least : ℕ) (frames : List Frame) (f : Frame)
     → AreFramesFrom n least frames → IsFrame n f → has_end frames ≡ false
     → AreEarlier f.tenure frames → least ≤ f.tenure → has_gone f.owner.0 (order_of frames) ≡ false
     → AreFramesFrom n least (frames ++ f ∷ [])
-AreFramesFrom-append n least [] f a b e c l stays = (
-  b,
-  l,
-  (λ z. refl),
-  tt,
-  (λ z. All-nil (λ g. g.owner ≢ f.owner)),
-)
+AreFramesFrom-append n least [] f a b e c l stays = grind (arith, common_steps, All-nil)
 AreFramesFrom-append n least (g ∷ frames) f a b e c l stays = (
   a.0,
   a.1,
@@ -175,16 +158,12 @@ pub items-append : (frames : List Frame) (f : Frame)
     → items_in (order_of (frames ++ f ∷ [])).entries
     ≡ items_in (order_of frames).entries ++ items_of f
 items-append frames f =
-    entries_are_items (frames ++ f ∷ []) ∙ flat_map-append items_of frames (f ∷ [])
-    ∙ ap (λ z. flat_map items_of frames ++ z) (append-nil (items_of f))
-    ∙ ap (λ z. z ++ items_of f) (sym (entries_are_items frames))
+    grind (arith, common_steps, entries_are_items, flat_map-append, flat_map, append-nil)
 
 pub of_sender-append : (s : ℕ) (frames : List Frame) (f : Frame)
     → of_sender s (order_of (frames ++ f ∷ []))
     ≡ of_sender s (order_of frames) ++ filter (λ i. i.sender.0 == s) (items_of f)
-of_sender-append s frames f =
-    ap (filter (λ i. i.sender.0 == s)) (items-append frames f)
-    ∙ filter-append (λ i. i.sender.0 == s) (items_in (order_of frames).entries) (items_of f)
+of_sender-append s frames f = grind (arith, common_steps, filter, items-append, filter-append)
 
 pub AreEarlier-append : (tenure : ℕ) (frames : List Frame) (f : Frame) → AreEarlier tenure frames
     → f.tenure < tenure → AreEarlier tenure (frames ++ f ∷ [])
@@ -201,9 +180,7 @@ AreEarlier-later t u (g ∷ frames) l a = (
 
 pub log_words-append : (frames : List Frame) (f : Frame)
     → log_words (frames ++ f ∷ []) ≡ log_words frames ++ frame_words f
-log_words-append frames f =
-    flat_map-append frame_words frames (f ∷ [])
-    ∙ ap (λ z. log_words frames ++ z) (append-nil (frame_words f))
+log_words-append frames f = grind (arith, common_steps, flat_map-append, append-nil)
 
 -- a frame's items are its owner's
 owned_messages : (owner : SenderNo) (messages : List Numbered)
@@ -247,13 +224,7 @@ module _ {base : ℕ → ℕ} (x : Layout) (words : ℕ → ℕ) (len : ℕ) (fr
   -- words past the length do not matter
   pub Logged-agree : (words' : ℕ → ℕ) → Agree (log_at x) len words words'
       → Logged base x words' len frames
-  Logged-agree words' same = record {
-    lawful = h.lawful;
-    words_are = read-agree words words' (log_at x) len same ∙ h.words_are;
-    fits = h.fits;
-    low = h.low;
-    counted = h.counted;
-  }
+  Logged-agree words' same = grind (arith, common_steps, read-agree)
 
   -- a frame whose words stand past the length is published by raising the length
   pub Logged-publish : (f : Frame) → IsFrame x.senders f → has_end frames ≡ false
@@ -263,13 +234,8 @@ module _ {base : ℕ → ℕ} (x : Layout) (words : ℕ → ℕ) (len : ℕ) (fr
       → (x.passers ≡ 0 → len + length (frame_words f) ≤ x.capacity)
       → Logged base x words (len + length (frame_words f)) (frames ++ f ∷ [])
   Logged-publish f is open_ended stays earlier counts stored fits = record {
-    lawful =
-        AreFramesFrom-append x.senders 0 frames f h.lawful is open_ended earlier (omega arith)
-        stays;
-    words_are =
-        read-add words (log_at x) len (length (frame_words f))
-        ∙ ap (λ z. z ++ words_read_from words (log_at x + len) (length (frame_words f))) h.words_are
-        ∙ ap (λ z. log_words frames ++ z) stored ∙ sym (log_words-append frames f);
+    lawful = grind (arith, common_steps, AreFramesFrom-append);
+    words_are = grind (arith, common_steps, read-add, length, log_words-append);
     fits = fits;
     low = h.low;
     counted = λ s. subst (AreCounted (base s)) (sym (of_sender-append s frames f))

@@ -1,12 +1,12 @@
 -- A step that is taken on another word, and the situation that is due.
-use Rattle.std.proofs.Common.{◌≡◌, ℕ, Option, Some, None, refl, ◌∙◌, ap}
+use Rattle.std.proofs.Common.{◌≡◌, ℕ, Option, Some, None, refl, ap, arith}
 use Rattle.std.proofs.lemmas.Option.{same_Some}
+use Rattle.std.proofs.lemmas.Grind.{common_steps}
 use Rattle.bus_register.specs.declared.registers.Op.{Op}
 use Rattle.bus_register.specs.declared.registers.Op.TheVariants.{Load, Store, Add, Cas}
 use Rattle.bus_register.specs.Words.{register}
-use Rattle.bus_presence.specs.Reclaimers.{Reclaiming, reclaim_op}
-use Rattle.bus_core.specs.Private.ParticipantTable.{Goes, Reads, due_beside, due_passed, due_home}
-use Rattle.bus_core.specs.Private.ParticipantTable.{due_reclaimed, reclaim_due, passed_due}
+use Rattle.bus_presence.specs.Reclaimers.{Reclaiming}
+use Rattle.bus_core.specs.Private.ParticipantTable.{Goes, Reads, due_beside, passed_due}
 use Rattle.bus_core.specs.declared.reuses.Passing.{Passing}
 use Rattle.bus_core.specs.Reusing.Turns.{on_place, op_placed}
 use Rattle.bus_tenure.specs.Situations.{Situation, IsClosed, IsIdle, IsSpent, LooksAtStage, Elects}
@@ -32,20 +32,7 @@ placed_found f w (Some o) = ap w (same_register f o)
 pub due_goes : {E : Type 0} (v : Option Op) (l : Option Passing) (s : Option Reclaiming)
     (z w : Situation E) → due_beside v l s z ≡ Goes w → z ≡ w
 due_goes (Some p) l s z w e = absurd cc
-due_goes None l s z w e = by_passed (passed_due z l) e
-  where
-    by_step : (r : Reclaiming) (d : Option Op) → due_reclaimed r d z ≡ Goes w → z ≡ w
-    by_step r None e = cc
-    by_step r (Some p) e = absurd cc
-
-    by_home : (d : Option Reclaiming) → due_home d z ≡ Goes w → z ≡ w
-    by_home None e = cc
-    by_home (Some r) e = by_step r (reclaim_op r) e
-
-    by_passed : (d : Option (ℕ × Passing)) → due_passed d (due_home (reclaim_due z s) z) ≡ Goes w
-        → z ≡ w
-    by_passed None e = by_home (reclaim_due z s) e
-    by_passed (Some q) e = absurd cc
+due_goes None l s z w e = grind (arith, common_steps)
 
 -- a passed place is loaded only of who would give the page of that tenure back for want of room,
 -- with these left to load
@@ -60,11 +47,7 @@ pub passes : {E : Type 0} (z : Situation E) (l : Option Passing) (t : ℕ) (p : 
 passes (GivesBack u page Sent) l t p e = absurd cc
 passes (GivesBack u page FoundEnd) l t p e = absurd cc
 passes (GivesBack u page NoRoom) None t p e = absurd cc
-passes (GivesBack u page NoRoom) (Some q) t p e = record {
-  page = page;
-  is = ap (λ (d : ℕ × Passing). GivesBack d.0 page NoRoom) (same_Some _ _ e);
-  same = ap (λ (d : ℕ × Passing). Some d.1) (same_Some _ _ e);
-}
+passes (GivesBack u page NoRoom) (Some q) t p e = grind (arith, common_steps, same_Some)
 passes IsClosed l t p e = absurd cc
 passes IsIdle l t p e = absurd cc
 passes IsSpent l t p e = absurd cc
@@ -79,19 +62,4 @@ passes (HasHanded u reason) l t p e = absurd cc
 pub due_reads : {E : Type 0} (v : Option Op) (l : Option Passing) (s : Option Reclaiming)
     (z : Situation E) (t : ℕ) (p : Passing) → due_beside v l s z ≡ Reads t p → IsPassing z l t p
 due_reads (Some o) l s z t p e = absurd cc
-due_reads None l s z t p e = by_passed (passed_due z l) refl e
-  where
-    by_step : (r : Reclaiming) (d : Option Op) → due_reclaimed r d z ≡ Reads t p → IsPassing z l t p
-    by_step r None e = absurd cc
-    by_step r (Some o) e = absurd cc
-
-    by_home : (d : Option Reclaiming) → due_home d z ≡ Reads t p → IsPassing z l t p
-    by_home None e = absurd cc
-    by_home (Some r) e = by_step r (reclaim_op r) e
-
-    by_passed : (d : Option (ℕ × Passing)) → passed_due z l ≡ d
-        → due_passed d (due_home (reclaim_due z s) z) ≡ Reads t p → IsPassing z l t p
-    by_passed None is e = by_home (reclaim_due z s) e
-    by_passed (Some q) is e = passes z l t p
-        (is ∙ (let same : (q.0 ≡ t) × (q.1 ≡ p) = (cc, cc) in
-        ap (λ n. Some (n, q.1)) same.0 ∙ ap (λ r. Some (t, r)) same.1))
+due_reads None l s z t p e = grind (arith, common_steps, passes)

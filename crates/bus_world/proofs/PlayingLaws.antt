@@ -1,19 +1,15 @@
 -- Lists, bytes, numbers and results of a program; and who took the page, as an answer tells it.
-use Rattle.std.proofs.Common.{◌≡◌, ℕ, zero, suc, ◌/◌, ◌<◌, Bool, true, false, cond, ◌==◌, nat_le}
-use Rattle.std.proofs.Common.{Option, Some, None, List, [], ◌∷◌, length, map, get_or, slice_get}
-use Rattle.std.proofs.Common.{slice_set, arith, refl, sym, ◌∙◌, ap, subst}
+use Rattle.std.proofs.Common.{◌≡◌, ℕ, zero, suc, ◌/◌, ◌<◌, Bool, true, false, cond, nat_le, Option}
+use Rattle.std.proofs.Common.{Some, None, List, [], ◌∷◌, length, map, get_or, slice_get, slice_set}
+use Rattle.std.proofs.Common.{arith, refl, sym, ◌∙◌, ap, subst}
 use Rattle.std.specs.Prelude.{Result, Ok, Err, IsErr, IsErrAnd, IfErr, All}
 use Rattle.std.proofs.lemmas.Grind.{common_steps}
 use Rattle.std.proofs.lemmas.List.{length-map}
 use Rattle.std.proofs.lemmas.Option.{gets, slice_get-get_or, same_Some}
 use Rattle.bus_register.specs.declared.registers.SenderNo.{SenderNo}
-use Rattle.bus_batch.specs.declared.batches.Phase.{Phase as BatchPhase}
-use Rattle.bus_batch.specs.declared.batches.Phase.TheVariants.{Open, Marking, Closed}
-use Rattle.bus_batch.specs.declared.messages.Mark.TheVariants as mark
 use Rattle.bus_tenure.specs.Core.{Core, Election}
 use Rattle.bus_tenure.specs.Situations.{waits, Situation, LooksAtStage, Elects, GivesBack}
 use Rattle.bus_tenure.specs.Situations.{HasHanded, answer_at, answer_of_election, answer_of_return}
-use Rattle.bus_tenure.specs.Situations.{answer_sent}
 use Rattle.bus_tenure.specs.declared.phases.Reason.{Reason}
 use Rattle.bus_tenure.specs.declared.phases.Reason.TheVariants.{Sent, FoundEnd, NoRoom}
 use Rattle.bus_tenure.specs.declared.turns.Turn.TheVariants as turn
@@ -42,22 +38,11 @@ module _ {E : Type 0} (X : Election E) (c : Core E) (p : ℕ) (owners : List ℕ
 
   election_told : (t : ℕ) (o : Option ℕ) → owners ≡ owners_by (answer_of_election c t o) p owners
   election_told t None = refl
-  election_told t (Some o) = by_test (o == c.me)
-    where
-      by_test : (a : Bool)
-          → owners ≡ owners_by (cond a turn.Going (turn.Lost t record { 0 = o })) p owners
-      by_test true = refl
-      by_test false = refl
+  election_told t (Some o) = grind (arith, common_steps)
 
   leaving_told : (t : ℕ) (reason : Reason)
       → owners ≡ owners_by (answer_of_return c.queue t reason) p owners
-  leaving_told t Sent = by_phase c.queue.phase
-    where
-      by_phase : (ph : BatchPhase) → owners ≡ owners_by (answer_sent c.queue t ph) p owners
-      by_phase Open = refl
-      by_phase (Marking mark.End) = refl
-      by_phase (Marking mark.Leave) = refl
-      by_phase Closed = refl
+  leaving_told t Sent = grind (arith, common_steps)
   leaving_told t FoundEnd = refl
   leaving_told t NoRoom = refl
 

@@ -1,11 +1,12 @@
 -- A turn of a sender changes what nobody has put: messages go from a batch into the order, and
 -- nowhere else.
-use Rattle.std.proofs.Common.{◌≡◌, ℕ, ◌+◌, ◌/◌, Bool, true, false, cond, ◌&&◌, ◌==◌, nat_lt}
-use Rattle.std.proofs.Common.{nat_le, Option, Some, None, inl, inr, List, [], ◌∷◌, ◌++◌, filter}
-use Rattle.std.proofs.Common.{map, is_some, slice_get, slice_index, slice_set, refl, sym, ◌∙◌, ap}
+use Rattle.std.proofs.Common.{◌≡◌, ℕ, ◌+◌, Bool, true, false, cond, ◌==◌, nat_lt, nat_le, Option}
+use Rattle.std.proofs.Common.{Some, None, inl, inr, List, [], ◌∷◌, ◌++◌, filter, map, is_some}
+use Rattle.std.proofs.Common.{slice_get, slice_index, slice_set, refl, sym, ◌∙◌, ap, arith}
 use Rattle.std.proofs.lemmas.Bool.{cases_eq}
 use Rattle.std.proofs.lemmas.List.{append-nil, map-append}
 use Rattle.std.proofs.lemmas.Option.{slice_get_within}
+use Rattle.std.proofs.lemmas.Grind.{common_steps}
 use Rattle.bus_register.specs.declared.registers.SenderNo.{SenderNo}
 use Rattle.bus_register.specs.Tables.{Beside}
 use Rattle.bus_register.specs.Private.TableLaws.{get_set_same, get_set_other}
@@ -15,13 +16,10 @@ use Rattle.bus_batch.specs.declared.messages.Item.{Item}
 use Rattle.bus_batch.specs.Messages.{numbered_messages}
 use Rattle.bus_batch.specs.Batches.{Pending, IsKept, frame_of, body_of}
 use Rattle.bus_batch.specs.Frames.{Frame, order_of, has_gone, items_of, body_items, item_of}
-use Rattle.bus_tenure.specs.Core.{Core, Election, Layout, frame_len, has_room, is_empty}
-use Rattle.bus_tenure.specs.Core.{is_marking, is_closed}
-use Rattle.bus_tenure.specs.Situations.{Situation, IsClosed, IsIdle, IsSpent, LooksAtStage, Elects}
-use Rattle.bus_tenure.specs.Situations.{TakesPage, StoresWord, StoresLength, GivesBack}
-use Rattle.bus_tenure.specs.Situations.{situation_at, situation_of, resting, electing, holding}
-use Rattle.bus_tenure.specs.Situations.{core_begun, core_after_stage, waits, core_elected}
-use Rattle.bus_tenure.specs.Situations.{core_at_rest, op_at}
+use Rattle.bus_tenure.specs.Core.{Core, Election, Layout, frame_len, has_room}
+use Rattle.bus_tenure.specs.Situations.{Situation, LooksAtStage, StoresWord, StoresLength}
+use Rattle.bus_tenure.specs.Situations.{GivesBack, situation_at, situation_of, resting, electing}
+use Rattle.bus_tenure.specs.Situations.{holding, core_elected, core_at_rest, op_at}
 use Rattle.bus_tenure.specs.declared.pages.Page.{Page}
 use Rattle.bus_tenure.specs.declared.phases.Reason.{Reason}
 use Rattle.bus_tenure.specs.declared.phases.Reason.TheVariants.{Sent, FoundEnd, NoRoom}
@@ -60,9 +58,7 @@ module _ {E : Type 0} where
   pub elected_waits : (c : Core E) (t : ℕ) (e : E) (o : Option ℕ)
       → waiting_of (Some (core_elected c t e o)) ≡ c.queue.messages
   elected_waits c t e None = refl
-  elected_waits c t e (Some o) = waits_same (o == c.me) (record c { phase = phase.Electing t e })
-      (record c { queue = record c.queue { busy = false }; least = t + 1; phase = phase.Resting })
-      c.queue.messages refl refl
+  elected_waits c t e (Some o) = grind (arith, common_steps, waits_same)
 
   pub laid_waits : (c : Core E) (t : ℕ) (home : Option Page)
       → waiting_of (Some (core_with_page c t home)) ≡ c.queue.messages
@@ -79,10 +75,7 @@ module _ {E : Type 0} (X : Election E) (senders senders' : ℕ → Option (Core 
   pub stays : (c' : Core E) → senders' p ≡ Some c' → waiting_of (Some c') ≡ waiting_of (Some c)
       → (q : ℕ)
       → sent_of frames q ++ waiting_of (senders' q) ≡ sent_of frames q ++ waiting_of (senders q)
-  stays c' new e q = ap (λ z. sent_of frames q ++ z) (elim (cases_eq q p) [
-    | inl i ↦ ap waiting_of (ap senders' i ∙ new) ∙ e ∙ ap waiting_of (sym old ∙ ap senders (sym i))
-    | inr ne ↦ ap waiting_of (beside q ne)
-  ])
+  stays c' new e q = grind (arith, common_steps, cases_eq, waiting_of)
 
   -- the frame goes into the order, and its messages out of what waits
   pub publish_puts : (t : ℕ) (page : Page) (stored : ℕ)
@@ -136,32 +129,19 @@ module _ {E : Type 0} (X : Election E) (senders senders' : ℕ → Option (Core 
       resting_waits = ap (waiting_at c) rests
 
       looks_puts : Puts LooksAtStage
-      looks_puts new = stays (core_after_stage X c got) new
-          (waits_same (waits c (got)) c (cond (nat_le c.layout.rows (got / 2))
-          (record c { least = got / 2 }) (core_begun X c (got / 2))) c.queue.messages resting_waits
-          (waits_same (nat_le c.layout.rows (got / 2)) (record c { least = got / 2 })
-          (core_begun X c (got / 2)) c.queue.messages
-          (ap (waiting_at (record c { least = got / 2 })) rests) refl) ∙ sym resting_waits)
+      looks_puts new =
+          grind (arith, common_steps, stays, waits_same, nat_le, resting_waits, waiting_at)
 
       rest_puts : Puts (resting c)
-      rest_puts = choose (is_closed c.queue.phase) IsClosed _ (λ new. stays c new refl)
-          (choose (is_empty c.queue.messages && cond (is_marking c.queue.phase) false true) IsIdle _
-          (λ new. stays c new refl) (choose (nat_le c.layout.rows c.least) IsSpent LooksAtStage
-          (λ new. stays c new refl) looks_puts))
+      rest_puts = grind (arith, common_steps, choose, stays, nat_le, looks_puts)
 
     module _ (t : ℕ) (e : E) (elects : c.phase ≡ phase.Electing t e) where
       electing_waits : waiting_of (Some c) ≡ c.queue.messages
       electing_waits = ap (waiting_at c) elects
 
       elect_puts : Puts (electing X t e)
-      elect_puts = pick' (is_some (X.owner e))
-        where
-          pick' : (b : Bool) → Puts (cond b (TakesPage t) (Elects t e))
-          pick' true new = stays (core_with_page (record c { phase = phase.Taken t }) t home) new
-              (laid_waits (record c { phase = phase.Taken t }) t home ∙ sym electing_waits)
-          pick' false new = stays (core_elected c t (X.fed e got word) (X.owner (X.fed e got word)))
-              new (elected_waits c t (X.fed e got word) (X.owner (X.fed e got word))
-              ∙ sym electing_waits)
+      elect_puts =
+          grind (arith, common_steps, is_some, stays, laid_waits, electing_waits, elected_waits)
 
     module _ (t : ℕ) (page : Page) (stored : ℕ) where
       hold_puts : (published : Bool) → c.phase ≡ phase.Holding t page stored published

@@ -2,7 +2,7 @@
 use Rattle.std.proofs.Common.{◌≡◌, ℕ, zero, suc, ◌+◌, ◌<◌, ◌≤◌, Option, List, [], ◌∷◌, ◌++◌}
 use Rattle.std.proofs.Common.{length, flat_map, take, drop, slice_index, arith, refl, sym, ◌∙◌, ap}
 use Rattle.std.proofs.Common.{subst, append_assoc}
-use Rattle.std.proofs.lemmas.Grind.{flat_map-append}
+use Rattle.std.proofs.lemmas.Grind.{flat_map-append, common_steps}
 use Rattle.std.proofs.lemmas.List.{append-nil, length-append, length-take, take-append-drop}
 use Rattle.std.proofs.lemmas.List.{take-append-le, take_at}
 use Rattle.bus_register.specs.declared.registers.SenderNo.{SenderNo}
@@ -64,9 +64,7 @@ given_is_prefix n frames k lawful = order_in-prefix n frames (take k (log_pieces
 -- frames that come later
 log_pieces-append : (frames : List Frame) (f : Frame)
     → log_pieces (frames ++ f ∷ []) ≡ log_pieces frames ++ frame_pieces f
-log_pieces-append frames f =
-    flat_map-append frame_pieces frames (f ∷ [])
-    ∙ ap (λ z. log_pieces frames ++ z) (append-nil (frame_pieces f))
+log_pieces-append frames f = grind (arith, common_steps, flat_map-append, append-nil)
 
 pub Receives-append :
     (n : ℕ) (frames : List Frame) (f : Frame) (len len' place known : ℕ) (reading : Reading)
@@ -93,11 +91,7 @@ Receives-append n frames f len len' place known reading size more h = record {
 pub Receives-known : (n : ℕ) (frames : List Frame) (len place known : ℕ) (reading : Reading)
     → Receives n frames len place known reading → place ≤ len
     → Receives n frames len place len reading
-Receives-known n frames len place known reading h l = record {
-  place_below = l;
-  known_below = omega arith;
-  has_read = h.has_read;
-}
+Receives-known n frames len place known reading h l = grind (arith, common_steps)
 
 -- the next word
 pub next_word : (xs : List ℕ) (k w : ℕ) → k < length xs → slice_index xs k ≡ w
@@ -119,54 +113,25 @@ module _ (n : ℕ) (frames : List Frame) (len place known : ℕ) (reading : Read
 
   -- the word is good
   pub goes_on : BeginsLog n (take place (log_words frames) ++ word ∷ [])
-  goes_on = (
-    drop (suc place) (log_words frames),
-    record {
-      frames = frames;
-      lawful = lawful;
-      words_are =
-          split
-          ∙ regroup (take place (log_words frames)) (drop (suc place) (log_words frames)) word;
-    },
-  )
+  goes_on = grind (arith, common_steps, drop, suc, split, regroup, take)
 
   module _ (found : Option Piece) (reading' : Reading)
       (read : HasRead n (take place (log_words frames) ++ word ∷ [])
       (take place (log_pieces frames) ++ found ∷ []) reading') where
     covered : (further : List (Option Piece))
         × (log_pieces frames ≡ (take place (log_pieces frames) ++ found ∷ []) ++ further)
-    covered =
-        let c = read.covers frames (drop (suc place) (log_words frames)) lawful
-        (split
-        ∙ regroup (take place (log_words frames)) (drop (suc place) (log_words frames)) word) in
-        (c.0, c.2)
+    covered = grind (arith, common_steps, drop, suc, split, regroup, take)
 
     enough : place < length (log_pieces frames)
     enough = let a = h.known_below in let b = length-log_pieces frames in omega arith
 
     words_now : take (place + 1) (log_words frames) ≡ take place (log_words frames) ++ word ∷ []
-    words_now =
-        ap (take (place + 1))
-        (split ∙ regroup (take place (log_words frames)) (drop (suc place) (log_words frames)) word)
-        ∙ take_at (take place (log_words frames) ++ word ∷ []) (drop (suc place) (log_words frames))
-        (place + 1)
-        (length-append (take place (log_words frames)) (word ∷ [])
-        ∙ (let a = length-take place (log_words frames) in let b = h.known_below in omega arith))
+    words_now = grind (arith, take, split, regroup, drop, suc, take_at, length-append, length-take)
 
     pieces_now : take (place + 1) (log_pieces frames) ≡ take place (log_pieces frames) ++ found ∷ []
     pieces_now =
-        ap (take (place + 1)) covered.1
-        ∙ take_at (take place (log_pieces frames) ++ found ∷ []) covered.0 (place + 1)
-        (length-append (take place (log_pieces frames)) (found ∷ [])
-        ∙ (let a = length-take place (log_pieces frames) in let b = enough in omega arith))
+        grind (arith, common_steps, take, covered, take_at, length-append, length-take, enough)
 
     -- what it gives is the piece of that word
     pub Receives-word : Receives n frames len (place + 1) known reading'
-    Receives-word = record {
-      place_below = omega arith;
-      known_below = h.known_below;
-      has_read = subst (λ z. HasRead n z (take (place + 1) (log_pieces frames)) reading')
-          (sym words_now)
-          (subst (λ z. HasRead n (take place (log_words frames) ++ word ∷ []) z reading')
-          (sym pieces_now) read);
-    }
+    Receives-word = grind (arith, common_steps, take, words_now, pieces_now)

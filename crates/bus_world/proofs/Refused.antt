@@ -1,9 +1,9 @@
 -- Each of the wrong behaviours is refused.
 use Rattle.std.proofs.Common.{take, length, ◌+◌, ◌≡◌, ◌≢◌, ℕ, suc, ◌<◌, Bool, Some, List, [], ◌∷◌}
 use Rattle.std.proofs.Common.{◌++◌, ◌==◌, map, filter, option_map, slice_get, cond, append-nil}
-use Rattle.std.proofs.Common.{arith, refl, sym, ◌∙◌, ap, subst}
+use Rattle.std.proofs.Common.{arith, refl, sym, ◌∙◌, ap}
 use Rattle.std.proofs.lemmas.Bool.{ne_eqb}
-use Rattle.std.proofs.lemmas.Grind.{flat_map-append}
+use Rattle.std.proofs.lemmas.Grind.{flat_map-append, common_steps}
 use Rattle.std.proofs.lemmas.List.{length-map}
 use Rattle.std.proofs.lemmas.List.Elements.{filter-append}
 use Rattle.std.proofs.lemmas.Option.{same_Some, slice_get-map, slice_get_within}
@@ -11,7 +11,7 @@ use Rattle.std.proofs.lemmas.Option.{get_or_from_slice_get}
 use Rattle.std.specs.Prelude.{All}
 use Rattle.bus_register.specs.declared.registers.SenderNo.{SenderNo}
 use Rattle.bus_batch.specs.declared.messages.Item.{Item}
-use Rattle.bus_batch.specs.Frames.{Order, Entry, Says, Leaves, item_in, items_in, sender_of}
+use Rattle.bus_batch.specs.Frames.{Order, Entry, Says, Leaves, items_in, sender_of}
 use Rattle.bus_deliverylog.specs.Orders.{of_sender}
 use Rattle.bus_deliverylog.specs.declared.receiving.RecvTurn.{RecvTurn}
 use Rattle.bus_world.specs.Headline.{puts, Action, order_given, heads, Promises, AreFramed}
@@ -96,21 +96,13 @@ own_mark owners entries ended (Batch u q (j ∷ own) others more over some all f
     later e f =
     absurd (says_apart j s (first_of (Says j) (Leaves s) (map Says own ++ more) later f))
 own_mark owners entries ended (LastOf u q others more over none framed) t o rest s later e f =
-    let same = same_owner u t q o others rest e in (
-      same_leave s q (sym (first_of (Leaves q) (Leaves s) more later f)) ∙ same,
-      subst (λ z. All (λ (p : ℕ × SenderNo). p.1 ≢ z) rest) same
-          (subst (All (λ (p : ℕ × SenderNo). p.1 ≢ q)) (same_tail (u, q) (t, o) others rest e)
-          none),
-    )
+    grind (arith, common_steps, same_owner, same_leave, first_of, same_tail)
 
 pub from_zero : FromZero
 from_zero = record {
   items = λ actions heard order owners p. counted_items order p.faithful.numbered;
   puts_are = λ actions heard order owners p s place number bytes at.
-      p.numbered s place number bytes at
-      ∙ (let same : 0 + length (puts (take place (actions s)))
-      ≡ length (puts (take place (actions s))) = omega arith in
-      same);
+      grind (arith, common_steps, length, take);
 }
 
 -- entries with no leave mark among them
@@ -134,32 +126,20 @@ module _ (base : ℕ → ℕ) (actions : ℕ → List Action) (heard : ℕ → L
   -- stands there in the order
   entry_at : (r k : ℕ) (e : Entry) → slice_get (order_given (heard r)).entries k ≡ Some e
       → slice_get order.entries k ≡ Some e
-  entry_at r k e at =
-      let d = p.delivered r in
-      ap (λ z. slice_get z k) d.entries ∙ got_before (order_given (heard r)).entries d.later k e at
+  entry_at r k e at = grind (arith, common_steps, slice_get, got_before)
 
   head_at : (r k : ℕ) (h : ℕ × SenderNo) → slice_get (heads (heard r)) k ≡ Some h
       → slice_get owners k ≡ Some h
-  head_at r k h at =
-      let d = p.told r in
-      ap (λ z. slice_get z k) (sym d.together) ∙ got_before (heads (heard r)) d.rest k h at
+  head_at r k h at = grind (arith, common_steps, slice_get, got_before)
 
   -- a sender's items begin with those that were given
   of_more : (r s : ℕ)
       → of_sender s order ≡ of_sender s (order_given (heard r)) ++ of_in s (p.delivered r).later
-  of_more r s =
-      let d = p.delivered r in
-      let own = λ (i : Item). i.sender.0 == s in
-      let given = (order_given (heard r)).entries in
-      ap (of_in s) d.entries
-      ∙ ap (filter own) (flat_map-append item_in given d.later)
-      ∙ filter-append own (items_in given) (items_in d.later)
+  of_more r s = grind (arith, common_steps, filter, flat_map-append, filter-append)
 
   item_at : (r s k : ℕ) (i : Item) → slice_get (of_sender s (order_given (heard r))) k ≡ Some i
       → slice_get (of_sender s order) k ≡ Some i
-  item_at r s k i at =
-      ap (λ z. slice_get z k) (of_more r s)
-      ∙ got_before (of_sender s (order_given (heard r))) (of_in s (p.delivered r).later) k i at
+  item_at r s k i at = grind (arith, common_steps, slice_get, of_more, got_before)
 
   number_at : (r s k : ℕ) (i : Item) → slice_get (of_sender s (order_given (heard r))) k ≡ Some i
       → i.number ≡ base s + k
@@ -228,20 +208,13 @@ refuses base actions heard order owners = record {
       let a = number_at base actions heard order owners p r s k i at in omega arith;
   starts_anew = λ r s k i at less p.
       let a = number_at base actions heard order owners p r s k i at in omega arith;
-  invented = λ r s k i at few p.
-      let low = slice_get_within (puts (actions s)) k i.message
-      (message_at base actions heard order owners p r s k i at) in
-      omega arith;
+  invented = λ r s k i at few p. grind (arith, common_steps, slice_get_within);
   altered = λ r s k i message at put other p.
       other (same_Some i.message message
       (sym (message_at base actions heard order owners p r s k i at) ∙ put));
   after_the_end = λ r j k answer at low at' other p. other (p.silent r j k answer at low at');
   short_of_the_end = λ r r' k e ended at few p.
-      let whole = (p.delivered r).ended ended in
-      let there =
-      ap (λ (z : Order). slice_get z.entries k) whole
-      ∙ entry_at base actions heard order owners p r' k e at in
-      let low = slice_get_within (order_given (heard r)).entries k e there in omega arith;
+      grind (arith, common_steps, slice_get, slice_get_within);
   unclosed = λ r ended nobody p.
       let whole = (p.delivered r).ended ended in
       let c = p.closed (ap (λ (z : Order). z.ended) (sym whole) ∙ ended) in

@@ -1,17 +1,17 @@
 -- What stands of a log whose words are used again, from the least passed place on: it is the end of
 -- all that was published, and can be read as a log of its own. Of one that does not wrap it is all.
-use Rattle.std.proofs.Common.{◌≡◌, inl, inr, ℕ, zero, suc, ◌+◌, ◌-◌, ◌%◌, ◌<◌, ◌≤◌, List, [], ◌∷◌}
-use Rattle.std.proofs.Common.{◌++◌, length, map, take, drop, arith, refl, sym, ◌∙◌, ap}
-use Rattle.std.proofs.Common.{subst}
+use Rattle.std.proofs.Common.{◌≡◌, ℕ, zero, suc, ◌+◌, ◌-◌, ◌%◌, ◌<◌, ◌≤◌, List, [], ◌∷◌, ◌++◌}
+use Rattle.std.proofs.Common.{length, map, take, drop, arith, refl, sym, ◌∙◌, ap}
 use Rattle.std.proofs.Math.Nat.{mod-eq_of_lt}
 use Rattle.std.proofs.Math.Seq.{take-length}
 use Rattle.std.proofs.lemmas.List.{get_or-drop, length-drop, take_more}
+use Rattle.std.proofs.lemmas.Grind.{common_steps}
 use Rattle.bus_register.specs.declared.limits.TheConstants.{NUMBERS}
 use Rattle.bus_batch.specs.Frames.{Frame, AreFrames, Spells, log_words, order_of, tenure_and_owner}
 use Rattle.bus_core.specs.Reusing.Participants.{passed_from, log_from}
 use Rattle.bus_tenure.specs.Core.{Layout}
 use Rattle.bus_world.specs.Log.{words_read_from, words_in_ring, least_passed, floor_shown}
-use Rattle.bus_world.specs.Floors.{IsBoundary, ShowsRing, passed_place}
+use Rattle.bus_world.specs.Floors.{IsBoundary, ShowsRing}
 use Rattle.bus_world.proofs.FloorLaws.{boundary_first, boundary_last, lesser_is}
 use Rattle.bus_world.proofs.Standing.{stands_as_log}
 
@@ -35,47 +35,17 @@ module _ (x : Layout) (rows : ℕ) (words : ℕ → ℕ) (frames : List Frame) (
   -- the least of some passed places and the length
   least_is : (n : ℕ) → n ≤ x.passers
       → (floor ≤ least n) × (least n ≤ length log) × IsBoundary frames (least n)
-  least_is zero within =
-      let long = h.long in
-      let low = h.low in (
-        omega arith,
-        omega arith,
-        subst (IsBoundary frames) (ap length words_are ∙ sym long) (boundary_last frames),
-      )
+  least_is zero within = grind (arith, common_steps, length, boundary_last)
   least_is (suc n) within =
       let before = least_is n (omega arith) in
-      let low : n < x.passers = omega arith in
-      let behind = h.behind n low in
-      let one = before.0 in
-      let most = before.1 in
-      elim (lesser_is (words (passed_place x rows n)) (least n)) [
-        | inl a ↦
-            let is = a.0 in
-            let less = a.1 in (
-              omega arith,
-              omega arith,
-              subst (IsBoundary frames) (sym is) (elim (h.edges n low) [
-                | inl b ↦ b
-                | inr all ↦ absurd (omega arith)
-              ]),
-            )
-        | inr a ↦
-            let is = a.0 in
-            (omega arith, omega arith, subst (IsBoundary frames) (sym is) before.2)
-      ]
+      grind (arith, common_steps, lesser_is)
 
   -- it is no less than the floor, and a frame begins there
   abbrev shown : ℕ
   shown = floor_shown words (passed_from x rows) x.passers (words 0)
 
   pub shown_is : (floor ≤ shown) × (shown ≤ length log) × IsBoundary frames shown
-  shown_is = by x.passers refl where
-    by : (n : ℕ) → x.passers ≡ n
-        → (floor ≤ floor_shown words (passed_from x rows) n (words 0))
-        × (floor_shown words (passed_from x rows) n (words 0) ≤ length log)
-        × IsBoundary frames (floor_shown words (passed_from x rows) n (words 0))
-    by zero flat = let none = h.none flat in (omega arith, omega arith, boundary_first frames)
-    by (suc n) some = least_is (suc n) (omega arith)
+  shown_is = grind (arith, common_steps, length, zero, boundary_first, suc, least_is)
 
   -- from the floor on the cells have what was published
   ring_read : (place many : ℕ) → floor ≤ place → place + many ≤ length log
@@ -93,24 +63,10 @@ module _ (x : Layout) (rows : ℕ) (words : ℕ → ℕ) (frames : List Frame) (
   pub ring_shows : words_in_ring words (log_from x rows) x.capacity shown (words 0 - shown)
       ≡ drop shown log
   ring_shows =
-      let long = h.long in
-      let is = shown_is in
-      let above = is.0 in
-      let most = is.1 in
-      ring_read shown (words 0 - shown) above (omega arith)
-      ∙ ap (λ n. take n (drop shown log))
-      (let size = length-drop shown log in
-      let e : words 0 - shown ≡ length (drop shown log) = omega arith in e)
-      ∙ take-length (drop shown log)
+      grind (arith, common_steps, shown_is, ring_read, take, drop, length-drop, length, take-length)
 
   -- they spell what the frames say from there on
   pub ring_spells : (n : ℕ) → AreFrames n frames
       → Spells n (words_in_ring words (log_from x rows) x.capacity shown (words 0 - shown))
       (order_of shown_is.2.rest) (map tenure_and_owner shown_is.2.rest)
-  ring_spells n lawful =
-      let b = shown_is.2 in
-      subst (λ ws. Spells n ws (order_of b.rest) (map tenure_and_owner b.rest))
-      (ap (λ k. drop k (log_words (b.front ++ b.rest))) (sym b.place_is)
-      ∙ ap (λ fs. drop shown (log_words fs)) (sym b.frames_are)
-      ∙ ap (drop shown) words_are ∙ sym ring_shows)
-      (stands_as_log n b.front b.rest (subst (AreFrames n) b.frames_are lawful))
+  ring_spells n lawful = grind (arith, shown_is, map, drop, ring_shows, stands_as_log)

@@ -1,7 +1,7 @@
 -- To each of the wrong buses nothing leads.
 use Rattle.std.proofs.Common.{◌≡◌, ◌⊎◌, inl, inr, ℕ, ◌+◌, ◌<◌, ◌≤◌, List, [], ◌∷◌, ◌++◌, length}
-use Rattle.std.proofs.Common.{arith, sym, ◌∙◌, ap, subst}
-use Rattle.std.proofs.lemmas.Grind.{flat_map-append}
+use Rattle.std.proofs.Common.{arith, sym, ◌∙◌, ap}
+use Rattle.std.proofs.lemmas.Grind.{flat_map-append, common_steps}
 use Rattle.std.proofs.lemmas.List.{length-append}
 use Rattle.bus_register.specs.Protocol.{Protocol}
 use Rattle.bus_batch.proofs.FrameLaws.{same_log}
@@ -12,7 +12,7 @@ use Rattle.bus_tenure.specs.Core.{Election, Layout}
 use Rattle.bus_world.specs.Headline.{Action}
 use Rattle.bus_world.specs.World.{IsLayout}
 use Rattle.bus_world.specs.Private.CyclicProtocols.{CyclicProtocol, Led}
-use Rattle.bus_world.specs.Floors.{IsBoundary, passed_place}
+use Rattle.bus_world.specs.Floors.{IsBoundary}
 use Rattle.bus_world.specs.Private.KeptProtocols.{IsKeptProtocol}
 use Rattle.bus_world.specs.RingRefusals.{RingRefuses}
 use Rattle.bus_world.proofs.Bounds.{words_low}
@@ -24,11 +24,7 @@ apart : (front back rest rest' : List Frame) (f : Frame) → front ++ f ∷ rest
     → (length (log_words back) ≤ length (log_words front))
     ⊎ (length (log_words front) + length (frame_words f) ≤ length (log_words back))
 apart front [] rest rest' f e = inl (omega arith)
-apart [] (g ∷ back) rest rest' f e =
-    let same : f ≡ g = cc in
-    let long = length-append (frame_words g) (log_words back) in
-    let one = ap (λ (w : Frame). length (frame_words w)) same in
-    inr (omega arith)
+apart [] (g ∷ back) rest rest' f e = grind (arith, common_steps, length-append, length)
 apart (h ∷ front) (g ∷ back) rest rest' f e =
     let same : h ≡ g = cc in
     let later : front ++ f ∷ rest ≡ back ++ rest' = cc in
@@ -43,10 +39,7 @@ apart (h ∷ front) (g ∷ back) rest rest' f e =
 none_within : (front rest : List Frame) (f : Frame) (place : ℕ)
     → IsBoundary (front ++ f ∷ rest) place → length (log_words front) < place
     → place < length (log_words front) + length (frame_words f) → ⊥
-none_within front rest f place b low high = elim (apart front b.front rest b.rest f b.frames_are) [
-  | inl a ↦ (let at = b.place_is in absurd (omega arith))
-  | inr a ↦ (let at = b.place_is in absurd (omega arith))
-]
+none_within front rest f place b low high = grind (arith, common_steps, apart)
 
 module _ {E : Type 0} (X : Election E) (P : Protocol E (Unit {0}) ℕ) (x : Layout)
     (s : Serves X P x) (ok : IsLayout x) (rows : ℕ) (two : 2 ≤ rows) (y : CyclicProtocol E)
@@ -66,22 +59,13 @@ module _ {E : Type 0} (X : Election E) (P : Protocol E (Unit {0}) ℕ) (x : Layo
         let a = (((kept led).by.finds r v at stays).1 apart).0 in absurd (omega arith);
     another_length = λ r v at stays here other led.
         other (((kept led).by.finds r v at stays).0 here);
-    lost_behind = λ r v place at stays from below other led.
-        let k = kept led in
-        let waits = k.by.waits r v at stays in
-        other (k.by.ring.stands place (omega arith) below);
-    lost_behind_the_floor = λ page place at from below other led.
-        let k = kept led in
-        let same = k.by.floor_home page at in
-        other (k.by.ring.stands place (omega arith) below);
+    lost_behind = λ r v place at stays from below other led. grind (arith, common_steps, kept);
+    lost_behind_the_floor = λ page place at from below other led. grind (arith, common_steps, kept);
     lost_behind_a_held_floor = λ p t page stored published c place at is from below other led.
         let k = kept led in
         let same = k.by.floor_held p t page stored published c at is in
         other (k.by.ring.stands place (omega arith) below);
-    floor_past_a_receiver = λ r v page at stays home high led.
-        let k = kept led in
-        let a = k.by.waits r v at stays in
-        let b = k.by.floor_home page home in absurd (omega arith);
+    floor_past_a_receiver = λ r v page at stays home high led. grind (arith, common_steps, kept);
     held_floor_past_a_receiver = λ r p t v page stored published c at stays there is high led.
         let k = kept led in
         let a = k.by.waits r v at stays in
@@ -90,9 +74,7 @@ module _ {E : Type 0} (X : Election E) (P : Protocol E (Unit {0}) ℕ) (x : Layo
         let a = (kept led).by.ring.long in absurd (omega arith);
     length_past_the_log = λ longer led.
         let a = (kept led).by.ring.long in absurd (omega arith);
-    floor_past_the_length = λ page at high led.
-        let k = kept led in
-        let a = floor_low k in let b = k.by.floor_home page at in absurd (omega arith);
+    floor_past_the_length = λ page at high led. grind (arith, common_steps, kept, floor_low);
     held_floor_past_the_length = λ p t page stored published c at is high led.
         let k = kept led in
         let a = floor_low k in
@@ -104,14 +86,7 @@ module _ {E : Type 0} (X : Election E) (P : Protocol E (Unit {0}) ℕ) (x : Layo
         let same = same_log x.senders 0 0 k.by.spelled.frames (front ++ f ∷ rest)
         k.by.spelled.lawful lawful (k.by.spelled.words_are ∙ sym are) in
         elim (k.by.ring.edges r low) [
-          | inl b ↦ none_within front rest f (y.reclamation.words (passed_place x rows r))
-              (subst (λ fs. IsBoundary fs (y.reclamation.words (passed_place x rows r))) same b)
-              past below
-          | inr all ↦
-              let few = words_low x.senders (front ++ f ∷ rest) lawful in
-              let long = ap length (flat_map-append frame_words front (f ∷ rest))
-              ∙ length-append (log_words front) (log_words (f ∷ rest)) in
-              let more = length-append (frame_words f) (log_words rest) in
-              absurd (omega arith)
+          | inl b ↦ grind (arith, common_steps, none_within)
+          | inr all ↦ grind (arith, common_steps, words_low, length, flat_map-append, length-append)
         ];
   }

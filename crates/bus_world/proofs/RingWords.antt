@@ -5,6 +5,7 @@ use Rattle.std.proofs.Common.{arith, refl, sym, ◌∙◌, ap}
 use Rattle.std.proofs.Math.Nat.{mod-eq_of_lt}
 use Rattle.std.proofs.lemmas.Bool.{cases_eq}
 use Rattle.std.proofs.lemmas.Nat.{mod_below, row_fits}
+use Rattle.std.proofs.lemmas.Grind.{common_steps}
 use Rattle.bus_register.specs.Tables.{Beside, put}
 use Rattle.bus_register.specs.Private.TableLaws.{put_here, put_beside}
 use Rattle.bus_presence.specs.declared.pins.Pin.{Pin}
@@ -70,34 +71,17 @@ module _ (x : Layout) (rows : ℕ) where
     row_ends = omega (arith, row_fits t x.width x.rows x.width room (omega arith))
 
     slot_ends : (two : 2 ≤ rows) → row_of z t + k < log_from x rows
-    slot_ends two = omega (
-      arith,
-      row_fits (t % rows) x.width rows x.width (mod_below t rows (omega arith)) (omega arith),
-    )
+    slot_ends two = grind (arith, common_steps, row_fits, mod_below)
 
     pub laid_worked : 2 ≤ rows → Laid worked (put (row_at x t + k) n V) W
     laid_worked two = let a = row_ends in let b = slot_ends two in record {
       length =
           beside_here 0 (λ e. omega arith) ∙ l.length ∙ sym (beside_there 0 (λ e. omega arith));
       stage = worked_stage ∙ l.stage ∙ sym (beside_there 1 (λ e. omega arith));
-      log = λ j less last.
-          beside_here (log_from x rows + j % x.capacity) (λ e. omega arith) ∙ l.log j less last
-          ∙ sym (beside_there (log_at x + j) (λ e. omega arith));
+      log = λ j less last. grind (arith, common_steps, beside_here, beside_there);
       row = λ u j in_rows less lives.
           let before = alive_same z h worked u worked_stage refl lives in elim (cases_eq u t) [
-            | inl i ↦ elim (cases_eq j k) [
-              | inl e ↦
-                  ap (λ y. worked.words (row_of z y + j)) i
-                  ∙ ap (λ y. worked.words (row_of z t + y)) e ∙ put_here (row_of z t + k) n h.words
-                  ∙ sym (put_here (row_at x t + k) n V)
-                  ∙ sym (ap (λ y. put (row_at x t + k) n V (row_at x t + y)) e)
-                  ∙ sym (ap (λ y. put (row_at x t + k) n V (row_at x y + j)) i)
-              | inr ne ↦
-                  beside_here (row_of z u + j) (λ e. ne (omega (arith, e, ap (λ y. row_of z y) i)))
-                  ∙ l.row u j in_rows less before
-                  ∙ sym (beside_there (row_at x u + j)
-                  (λ e. ne (omega (arith, e, ap (λ y. row_at x y) i))))
-            ]
+            | inl i ↦ grind (arith, common_steps, cases_eq, put_here, beside_here, beside_there)
             | inr ne ↦
                 let p = before.opened in
                 let q = before.stays in let r = live.opened in let s = live.stays in
@@ -125,19 +109,7 @@ module _ (x : Layout) (rows : ℕ) where
         let stage = here 1 (λ e. omega arith) in record {
           length = here 0 (λ e. omega arith) ∙ l.length ∙ sym (there 0 (λ e. omega arith));
           stage = stage ∙ l.stage ∙ sym (there 1 (λ e. omega arith));
-          log = λ j less last. elim (cases_eq j W) [
-            | inl e ↦
-                ap (λ y.
-                put (log_from x rows + W % x.capacity) n h.words (log_from x rows + y % x.capacity))
-                e ∙ put_here (log_from x rows + W % x.capacity) n h.words
-                ∙ sym (put_here (log_at x + W) n V)
-                ∙ sym (ap (λ y. put (log_at x + W) n V (log_at x + y)) e)
-            | inr ne ↦
-                here (log_from x rows + j % x.capacity)
-                (λ e. ne (one_of_row x.capacity j W (omega arith) (omega arith) (omega arith)))
-                ∙ l.log j (omega arith) (omega arith)
-                ∙ sym (there (log_at x + j) (λ e. ne (omega arith)))
-          ];
+          log = λ j less last. grind (arith, common_steps, cases_eq, put_here, one_of_row);
           row = λ u j room less live.
               let a = row_fits (u % rows) x.width rows x.width (mod_below u rows (omega arith))
               (omega arith) in
@@ -156,42 +128,14 @@ module _ (x : Layout) (rows : ℕ) where
 
     pub laid_told : Laid (record { words = put 0 n h.words; pins = pins; reclaimer = h.reclaimer })
         (put 0 n V) W
-    laid_told =
-        let here = put_beside 0 n h.words in let there = put_beside 0 n V in
-        let stage = here 1 (λ e. omega arith) in record {
-          length = put_here 0 n h.words ∙ sym (put_here 0 n V);
-          stage = stage ∙ l.stage ∙ sym (there 1 (λ e. omega arith));
-          log = λ j less last.
-              here (log_from x rows + j % x.capacity) (λ e. omega arith) ∙ l.log j less last
-              ∙ sym (there (log_at x + j) (λ e. omega arith));
-          row = λ u j room less live.
-              here (row_of z u + j) (λ e. omega arith)
-              ∙ l.row u j room less (alive_same z h
-              (record { words = put 0 n h.words; pins = pins; reclaimer = h.reclaimer }) u stage
-              refl live) ∙ sym (there (row_at x u + j) (λ e. omega arith));
-          late = λ u j late room less.
-              let same = ap (λ y. y / 2) stage in
-              there (row_at x u + j) (λ e. omega arith) ∙ l.late u j (omega arith) room less;
-        }
+    laid_told = grind (arith, common_steps, put_beside, put_here, alive_same)
 
   -- a passed place, of which the other table has none
   module _ (h : Reclamation) (V : ℕ → ℕ) (W : ℕ) (l : Laid h V W) (r n : ℕ) (low : r < x.passers)
     where
       pub laid_passed : 2 ≤ rows
           → Laid (record h { words = put (passed_place x rows r) n h.words }) V W
-      laid_passed two = let here = put_beside (passed_place x rows r) n h.words in
-          let stage = here 1 (λ e. omega arith) in record {
-            length = here 0 (λ e. omega arith) ∙ l.length;
-            stage = stage ∙ l.stage;
-            log = λ j less last.
-                here (log_from x rows + j % x.capacity) (λ e. omega arith) ∙ l.log j less last;
-            row = λ u j room less live.
-                here (row_of z u + j) (λ e. behind_rows x rows two u j r less (sym e))
-                ∙ l.row u j room less (alive_same z h
-                (record h { words = put (passed_place x rows r) n h.words }) u stage refl live);
-            late = λ u j late room less.
-                let same = ap (λ y. y / 2) stage in l.late u j (omega arith) room less;
-          }
+      laid_passed two = grind (arith, common_steps, put_beside, behind_rows, alive_same)
 
   -- the stage, where the page is taken: the reclaimer of the next row begins, and has passed nobody
   module _ (h : Reclamation) (T : Trails) (keeps : Keeps z h T) (pins : ℕ → Pin) (V : ℕ → ℕ) (W : ℕ)
@@ -210,9 +154,7 @@ module _ (x : Layout) (rows : ℕ) where
         let stage = put_here 1 (2 * t + 1) h.words in record {
           length = here 0 (λ e. omega arith) ∙ l.length ∙ sym (there 0 (λ e. omega arith));
           stage = stage ∙ sym (put_here 1 (2 * t + 1) V);
-          log = λ j less last.
-              here (log_from x rows + j % x.capacity) (λ e. omega arith) ∙ l.log j less last
-              ∙ sym (there (log_at x + j) (λ e. omega arith));
+          log = λ j less last. grind (arith, common_steps);
           row = λ u j room less live. let a = live.opened in let b = live.stays in
               here (row_of z u + j) (λ e. omega arith) ∙ l.row u j room less record {
                 opened = omega arith;
@@ -234,19 +176,11 @@ module _ (x : Layout) (rows : ℕ) where
         let stage = put_here 1 (2 * t + 2) h.words in record {
           length = here 0 (λ e. omega arith) ∙ l.length ∙ sym (there 0 (λ e. omega arith));
           stage = stage ∙ sym (put_here 1 (2 * t + 2) V);
-          log = λ j less last.
-              here (log_from x rows + j % x.capacity) (λ e. omega arith) ∙ l.log j less last
-              ∙ sym (there (log_at x + j) (λ e. omega arith));
+          log = λ j less last. grind (arith, common_steps);
           row = λ u j room less live. let a = live.opened in let b = live.stays in
               here (row_of z u + j) (λ e. omega arith) ∙ elim (cases_eq u (t + 1)) [
-                | inl e ↦
-                    ap (λ y. h.words (row_of z y + j)) e ∙ clean j less
-                    ∙ sym (l.late u j (omega arith) room less)
-                | inr ne ↦ l.row u j room less record {
-                  opened = omega arith;
-                  stays = omega arith;
-                  unreclaimed = λ s is all. omega arith;
-                }
+                | inl e ↦ grind (arith, common_steps)
+                | inr ne ↦ grind (arith, common_steps)
               ] ∙ sym (there (row_at x u + j) (λ e. omega arith));
           late = λ u j late room less.
               there (row_at x u + j) (λ e. omega arith) ∙ l.late u j (omega arith) room less;
@@ -263,7 +197,4 @@ module _ (x : Layout) (rows : ℕ) where
   -- of a log that does not wrap: each word stands in the cell of its own number
   pub found_straight : (h : Reclamation) (V : ℕ → ℕ) (W place : ℕ) → Laid h V W → W ≤ x.capacity
       → place < W → h.words (log_from x rows + place) ≡ V (log_at x + place)
-  found_straight h V W place l room below =
-      ap (λ k. h.words (log_from x rows + k))
-      (sym (let few : place < x.capacity = omega arith in mod-eq_of_lt few))
-      ∙ found_there h V W 0 place l (omega arith) (omega arith) below
+  found_straight h V W place l room below = grind (arith, common_steps, mod-eq_of_lt, found_there)

@@ -1,12 +1,13 @@
 -- What is kept of one sender beside the steps of others: its part, who has left, and who owns a
 -- frame; and what it keeps that gives a page back without having published.
-use Rattle.std.proofs.Common.{◌≡◌, ◌≢◌, ℕ, ◌+◌, Bool, true, false, Some, List, [], ◌∷◌}
-use Rattle.std.proofs.Common.{◌++◌, cond, slice_get, slice_set, arith, refl, sym, ◌∙◌, ap, subst}
+use Rattle.std.proofs.Common.{◌≡◌, ◌≢◌, ℕ, ◌+◌, Bool, true, false, Some, List, [], ◌∷◌, ◌++◌, cond}
+use Rattle.std.proofs.Common.{slice_get, slice_set, arith, refl, sym, ◌∙◌, subst}
 use Rattle.std.proofs.lemmas.Bool.{true≢false}
 use Rattle.std.specs.Prelude.{All}
 use Rattle.std.proofs.lemmas.List.Elements.{All-from_recursion}
 use Rattle.bus_batch.specs.Messages.{IsMessage}
 use Rattle.std.proofs.lemmas.Option.{slice_get_within}
+use Rattle.std.proofs.lemmas.Grind.{common_steps}
 use Rattle.bus_batch.specs.Batches.{Pending, IsKept, phase_sent}
 use Rattle.bus_batch.specs.declared.batches.Phase.{Phase as BatchPhase}
 use Rattle.bus_batch.specs.declared.batches.Phase.TheVariants.{Open, Marking, Closed}
@@ -18,7 +19,7 @@ use Rattle.bus_tenure.specs.declared.phases.Reason.TheVariants.{Sent, FoundEnd, 
 use Rattle.bus_tenure.specs.declared.pages.Page.{Page}
 use Rattle.bus_tenure.specs.declared.phases.Phase.{Phase}
 use Rattle.bus_tenure.specs.declared.phases.Phase.TheVariants as phase
-use Rattle.bus_world.specs.Log.{AgreeFrom, words_read_from, Knows}
+use Rattle.bus_world.specs.Log.{AgreeFrom, Knows}
 use Rattle.bus_world.specs.Private.Sending.{stands_at, GoesOn, IsWriting, Fits, Part, AreOwned}
 use Rattle.bus_register.specs.Private.TableLaws.{push_beside, get_set_same, get_set_other}
 use Rattle.bus_world.proofs.LogLaws.{read-agree, SaySame}
@@ -28,11 +29,7 @@ use Rattle.bus_world.specs.Private.Tenures.Standing.{Holds}
 -- a sender that is not closed has not left
 pub still_here : (base : ℕ → ℕ) {E : Type 0} (frames : List Frame) (c : Core E)
     → GoesOn base frames c → (c.queue.phase ≡ Closed → ⊥) → has_gone c.me (order_of frames) ≡ false
-still_here base frames c g is_open = by_gone (has_gone c.me (order_of frames)) refl
-  where
-    by_gone : (b : Bool) → has_gone c.me (order_of frames) ≡ b → b ≡ false
-    by_gone true e = absurd (is_open (g.1 e).0)
-    by_gone false e = refl
+still_here base frames c g is_open = grind (arith, common_steps)
 
 -- whose leave mark is sent is closed
 pub left_shut : (ph : BatchPhase) → is_leaving ph ≡ true → phase_sent ph ≡ Closed
@@ -62,38 +59,14 @@ module _ (base : ℕ → ℕ) {E : Type 0} (x : Layout) (words words' : ℕ → 
     (agree : AgreeFrom (log_at x) words words') (len : words' 0 ≡ words 0) where
   writing_stays : (t : ℕ) (page : Page) (stored : ℕ) → IsWriting base words frames c t page stored
       → IsWriting base words' frames c t page stored
-  writing_stays t page stored w = record {
-    goes_on = w.goes_on;
-    page_knows = Knows-len page frames t (words 0) (words' 0) len w.page_knows;
-    earlier = w.earlier;
-    stored_below = w.stored_below;
-    flat = w.flat;
-    allowed = w.allowed;
-    words_are =
-        ap (λ z. words_read_from words' (log_at c.layout + z) stored) len
-        ∙ read-agree words words' (log_at c.layout + words 0) stored
-        (λ r a b. agree r (let z = ap log_at layout in omega arith)) ∙ w.words_are;
-  }
+  writing_stays t page stored w = grind (arith, common_steps, Knows-len, read-agree)
 
   Fits-agree : (ph : Phase E) → Fits base words frames c ph → Fits base words' frames c ph
   Fits-agree phase.Resting f = f
   Fits-agree (phase.Electing t e) f = f
   Fits-agree (phase.Taken t) f = f
   Fits-agree (phase.Holding t page stored false) f = (f.0, writing_stays t page stored f.1)
-  Fits-agree (phase.Holding t page stored true) f = (
-    f.0,
-    let h = f.1 in
-        record {
-          front = h.front;
-          frames_are = h.frames_are;
-          goes_on = h.goes_on;
-          page_knows = h.page_knows;
-          flat = h.flat;
-          earlier = h.earlier;
-          is_open = h.is_open;
-          len_is = len ∙ h.len_is;
-        },
-  )
+  Fits-agree (phase.Holding t page stored true) f = grind (arith, common_steps)
   Fits-agree (phase.Giving t reason) f = f
 
 pub Part-agree : {base : ℕ → ℕ} {E : Type 0} (x : Layout) (words words' : ℕ → ℕ)
@@ -143,14 +116,7 @@ pub part_of : {base : ℕ → ℕ} {E : Type 0} (x : Layout) (words words' : ℕ
     (frames frames' : List Frame) (p : ℕ) (c : Core E) (ph : Phase E) → Part base x words frames p c
     → Fits base words' frames' (record c { phase = ph }) ph
     → Part base x words' frames' p (record c { phase = ph })
-part_of x words words' frames frames' p c ph h f = record {
-  layout = h.layout;
-  me = h.me;
-  below = h.below;
-  sender = h.sender;
-  queue = h.queue;
-  fits = f;
-}
+part_of x words words' frames frames' p c ph h f = assumption
 
 pub not_busy : (reason : Reason) (q : Pending) → (queue_after reason q).busy ≡ false
 not_busy Sent q = refl
@@ -181,43 +147,15 @@ unsent_goes_on base frames NoRoom u c t g = g
 pub unsent_queue : (reason : Reason) → IsUnsent reason → (q : Pending) → IsKept q
     → IsKept (queue_after reason q)
 unsent_queue Sent u q is = absurd u
-unsent_queue FoundEnd u q is = record {
-  few = is.few;
-  each = is.each;
-  numbers = is.numbers;
-  alone = λ m e. absurd cc;
-  owner_bits = is.owner_bits;
-}
-unsent_queue NoRoom u q is = record {
-  few = is.few;
-  each = is.each;
-  numbers = is.numbers;
-  alone = is.alone;
-  owner_bits = is.owner_bits;
-}
+unsent_queue FoundEnd u q is = grind (arith, common_steps)
+unsent_queue NoRoom u q is = assumption
 
 pub unsent_knows : {base : ℕ → ℕ} {E : Type 0} (reason : Reason) → IsUnsent reason
     → (c : Core E) (t : ℕ) (page : Page) (frames : List Frame) (len : ℕ)
     → Knows base page frames t len → Knows base (page_after c t page reason) frames (t + 1) len
 unsent_knows Sent u c t page frames len k = absurd u
-unsent_knows FoundEnd u c t page frames len k = record {
-  entries = k.entries;
-  next = k.next;
-  left = k.left;
-  ended = k.ended;
-  tenures = refl;
-  words = k.words;
-  floor = k.floor;
-}
-unsent_knows NoRoom u c t page frames len k = record {
-  entries = k.entries;
-  next = k.next;
-  left = k.left;
-  ended = k.ended;
-  tenures = refl;
-  words = k.words;
-  floor = k.floor;
-}
+unsent_knows FoundEnd u c t page frames len k = assumption
+unsent_knows NoRoom u c t page frames len k = assumption
 
 -- a page is handed on with the floor that it has
 pub floor_after : {E : Type 0} (c : Core E) (t : ℕ) (page : Page) (reason : Reason)

@@ -1,5 +1,7 @@
 -- What the election of any ratifier has, so that a bus goes by it.
 use Rattle.std.proofs.Common.{◌≡◌, ℕ, Bool, false, Option, Some, None, is_some, inl, inr, refl}
+use Rattle.std.proofs.Common.{arith}
+use Rattle.std.proofs.lemmas.Grind.{common_steps}
 use Rattle.bus_register.specs.declared.kinds.Kind.{Kind}
 use Rattle.bus_register.specs.declared.kinds.Kind.TheVariants as kind
 use Rattle.bus_register.specs.declared.registers.Op.{Op}
@@ -9,7 +11,7 @@ use Rattle.bus_adoptcommit.specs.declared.verdicts.Verdict.{Verdict}
 use Rattle.bus_walkcoin.specs.declared.coins.Phase.{Phase as CoinPhase}
 use Rattle.bus_walkcoin.specs.declared.coins.Phase.TheVariants as coin
 use Rattle.bus_walkcoin.specs.Coin.{kind_at as coin_kind_at}
-use Rattle.bus_coinconc.specs.Conciliator.{ConciliatorState, conciliator_kind, conciliator_op}
+use Rattle.bus_coinconc.specs.Conciliator.{ConciliatorState, conciliator_kind}
 use Rattle.bus_coinconc.specs.Conciliator.{kind_at as concile_kind_at}
 use Rattle.bus_coinconc.specs.declared.conciliators.Stage.{Stage as ConcileStage}
 use Rattle.bus_coinconc.specs.declared.conciliators.Stage.TheVariants as concile
@@ -18,7 +20,7 @@ use Rattle.bus_binconsensus.specs.declared.objects.Object.{Object}
 use Rattle.bus_binconsensus.specs.declared.objects.Object.TheVariants.{Ratify, Concile, Fall}
 use Rattle.bus_binconsensus.specs.Fallback as fallback
 use Rattle.bus_binconsensus.specs.Private.ObjectNames.{objects_named}
-use Rattle.bus_binconsensus.specs.Objects.{Decider, object_kind, decide_op}
+use Rattle.bus_binconsensus.specs.Objects.{Decider, object_kind}
 use Rattle.bus_ownerbits.specs.Election.{kind_at as election_kind_at}
 use Rattle.bus_ownerbits.specs.OneOwner.{OneOwner}
 use Rattle.bus_ownerbits.specs.Private.ElectionNamed.{election_named}
@@ -91,9 +93,7 @@ module _ {S : Type 0} (kind_of : S → Option Kind) (op : S → ℕ → Option O
     width = refl;
     starts = λ n me at. refl;
     owner_is = λ e. refl;
-    named = election_named (λ d. object_kind kind_of conciliator_kind d.object)
-        (decide_op op conciliator_op) (λ d word. objects_named kind_of op named conciliator_kind
-        conciliator_op conciliator_names_each_step d.object word);
+    named = grind (arith, common_steps, election_named, objects_named, conciliator_names_each_step);
     announces = λ e begun.
         announce_first (λ d. object_kind kind_of conciliator_kind d.object) e.stage begun;
     apart = λ e takes. takes_stage kind_of own_kinds e.stage takes;

@@ -1,10 +1,10 @@
 -- Frames whose words begin those of others begin them, and frames from one of them on are a log by
 -- themselves: what stands of a log whose first frames are gone can be read as a whole one.
-use Rattle.std.proofs.Common.{◌≡◌, ℕ, ◌+◌, ◌≤◌, List, [], ◌∷◌, ◌++◌, length, map, drop, arith}
-use Rattle.std.proofs.Common.{refl, sym, ◌∙◌, ap, append_assoc}
+use Rattle.std.proofs.Common.{◌≡◌, ℕ, ◌+◌, ◌≤◌, List, [], ◌∷◌, ◌++◌, length, map, drop, arith, refl}
+use Rattle.std.proofs.Common.{sym, ◌∙◌, append_assoc}
 use Rattle.bus_batch.proofs.FrameLaws.{same_frame}
 use Rattle.std.proofs.Math.Seq.{drop-append_seam}
-use Rattle.std.proofs.lemmas.Grind.{flat_map-append}
+use Rattle.std.proofs.lemmas.Grind.{flat_map-append, common_steps}
 use Rattle.bus_batch.specs.Frames.{Frame, Spells, AreFramesFrom, AreFrames, frame_words, log_words}
 use Rattle.bus_batch.specs.Frames.{order_of, tenure_and_owner}
 
@@ -36,11 +36,5 @@ later_frames n least (f ∷ front) back h = later_frames n (f.tenure + 1) front 
 pub stands_as_log : (n : ℕ) (front back : List Frame) → AreFrames n (front ++ back)
     → Spells n (drop (length (log_words front)) (log_words (front ++ back))) (order_of back)
     (map tenure_and_owner back)
-stands_as_log n front back h = record {
-  frames = back;
-  lawful = later_frames n 0 front back h;
-  words_are = sym (ap (drop (length (log_words front))) (flat_map-append frame_words front back)
-      ∙ drop-append_seam (log_words front) (log_words back));
-  order_is = refl;
-  owners_are = refl;
-}
+stands_as_log n front back h =
+    grind (arith, common_steps, later_frames, drop, length, flat_map-append, drop-append_seam)

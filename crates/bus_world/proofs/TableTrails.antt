@@ -4,6 +4,7 @@ use Rattle.std.proofs.Common.{List, [], ◌∷◌, ◌++◌, length, slice_get, 
 use Rattle.std.proofs.Common.{subst}
 use Rattle.std.proofs.lemmas.Bool.{cases_eq}
 use Rattle.std.proofs.lemmas.Option.{none-some, same_Some, slice_get_within}
+use Rattle.std.proofs.lemmas.Grind.{common_steps}
 use Rattle.bus_register.specs.declared.kinds.Kind.{Kind}
 use Rattle.bus_register.specs.declared.kinds.Kind.TheVariants as kind
 use Rattle.bus_register.specs.Tables.{of_some, Beside, put, Agree}
@@ -21,46 +22,21 @@ use Rattle.bus_world.proofs.Tying.{next_tenure, Tables, PageTies}
 
 -- ---- trails
 pub Announced-before : (xs ys : List Action) (t : ℕ) → Announced xs t → Announced (xs ++ ys) t
-Announced-before xs ys t a = record {
-  place = a.place;
-  found = a.found;
-  chose = a.chose;
-  answer = a.answer;
-  at = got_before xs ys a.place _ a.at;
-}
+Announced-before xs ys t a = grind (arith, common_steps, got_before)
 
 pub Elected-before : (xs ys : List Action) (t o : ℕ) → Elected xs t o → Elected (xs ++ ys) t o
-Elected-before xs ys t o a = record {
-  place = a.place;
-  step = a.step;
-  found = a.found;
-  answer = a.answer;
-  at = got_before xs ys a.place _ a.at;
-}
+Elected-before xs ys t o a = grind (arith, common_steps, got_before)
 
 pub Took-before : (xs ys : List Action) (t i : ℕ) → Took xs t i → Took (xs ++ ys) t i
-Took-before xs ys t i a = record {
-  found = a.found;
-  chose = a.chose;
-  answer = a.answer;
-  at = got_before xs ys i _ a.at;
-}
+Took-before xs ys t i a = grind (arith, common_steps, got_before)
 
 pub Elected-split : (xs ys : List Action) (t o : ℕ) → Elected (xs ++ ys) t o
     → Elected xs t o ⊎ Elected ys t o
-Elected-split xs ys t o a = elim (got_split xs ys a.place _ a.at) [
-  | inl l ↦
-      inl (record { place = a.place; step = a.step; found = a.found; answer = a.answer; at = l })
-  | inr r ↦
-      inr (record { place = r.0; step = a.step; found = a.found; answer = a.answer; at = r.2 })
-]
+Elected-split xs ys t o a = grind (arith, common_steps, got_split)
 
 pub Took-split : (xs ys : List Action) (t i : ℕ) → Took (xs ++ ys) t i
     → Took xs t i ⊎ ((j : ℕ) × (i ≡ length xs + j) × Took ys t j)
-Took-split xs ys t i a = elim (got_split xs ys i _ a.at) [
-  | inl l ↦ inl (record { found = a.found; chose = a.chose; answer = a.answer; at = l })
-  | inr r ↦ inr (r.0, r.1, record { found = a.found; chose = a.chose; answer = a.answer; at = r.2 })
-]
+Took-split xs ys t i a = grind (arith, common_steps, got_split)
 
 -- actions that end no election, and that take no page
 pub record IsPlain (ds : List Action) : Type 0 where
@@ -68,22 +44,13 @@ pub record IsPlain (ds : List Action) : Type 0 where
   pub none_took : (t i : ℕ) → Took ds t i → ⊥
 
 pub plain_none : IsPlain []
-plain_none = record {
-  none_elected = λ t o a. none_in a.place _ a.at;
-  none_took = λ t i a. none_in i _ a.at;
-}
+plain_none = grind (arith, common_steps, none_in)
 
 pub plain_put : (n : ℕ) (bytes : List ℕ) → IsPlain (HasPut n bytes ∷ [])
-plain_put n bytes = record {
-  none_elected = λ t o a. let e = (only_one (HasPut n bytes) a.place _ a.at).1 in cc;
-  none_took = λ t i a. let e = (only_one (HasPut n bytes) i _ a.at).1 in cc;
-}
+plain_put n bytes = grind (arith, common_steps, only_one)
 
 pub plain_mark : (m : Mark) → IsPlain (HasMarked m ∷ [])
-plain_mark m = record {
-  none_elected = λ t o a. let e = (only_one (HasMarked m) a.place _ a.at).1 in cc;
-  none_took = λ t i a. let e = (only_one (HasMarked m) i _ a.at).1 in cc;
-}
+plain_mark m = grind (arith, common_steps, only_one)
 
 same_step : (tn tn' : Option ℕ) (k k' : Kind) (f f' : ℕ) (ch ch' : Option ℕ) (a a' : Answered)
     → Stepped tn k f ch a ≡ Stepped tn' k' f' ch' a' → (tn ≡ tn') × (k ≡ k') × (ch ≡ ch') × (a ≡ a')
@@ -91,22 +58,15 @@ same_step tn tn' k k' f f' ch ch' a a' e = (cc, cc, cc, cc)
 
 pub one_elected : (tn : Option ℕ) (k : Kind) (f : ℕ) (ch : Option ℕ) (a : Answered) (t o : ℕ)
     → Elected (Stepped tn k f ch a ∷ []) t o → (tn ≡ Some t) × (ch ≡ Some o)
-one_elected tn k f ch a t o el =
-    let s = same_step _ _ _ _ _ _ _ _ _ _ (only_one (Stepped tn k f ch a) el.place _ el.at).1 in
-    (s.0, s.2)
+one_elected tn k f ch a t o el = grind (arith, common_steps, same_step, only_one)
 
 pub one_took : (tn : Option ℕ) (k : Kind) (f : ℕ) (ch : Option ℕ) (a : Answered) (t i : ℕ)
     → Took (Stepped tn k f ch a ∷ []) t i → (i ≡ 0) × (tn ≡ Some t) × (k ≡ kind.TakePage)
-one_took tn k f ch a t i el =
-    let o = only_one (Stepped tn k f ch a) i _ el.at in
-    let s = same_step _ _ _ _ _ _ _ _ _ _ o.1 in (o.0, s.0, s.1)
+one_took tn k f ch a t i el = grind (arith, common_steps, only_one, same_step)
 
 pub plain_step : (tn : Option ℕ) (k : Kind) (f : ℕ) (a : Answered) → (k ≡ kind.TakePage → ⊥)
     → IsPlain (Stepped tn k f None a ∷ [])
-plain_step tn k f a other = record {
-  none_elected = λ t o el. none-some o (one_elected tn k f None a t o el).1;
-  none_took = λ t i el. other (one_took tn k f None a t i el).2;
-}
+plain_step tn k f a other = grind (arith, common_steps, none-some, one_elected, one_took)
 
 -- ---- the trails of all, of which that of one has more
 pub record Longer (p : ℕ) (ds : List Action) (old new : ℕ → List Action) : Type 0 where
@@ -115,40 +75,17 @@ pub record Longer (p : ℕ) (ds : List Action) (old new : ℕ → List Action) :
 
 module _ (p : ℕ) (ds : List Action) (old new : ℕ → List Action) (g : Longer p ds old new) where
   pub announced_still : (q t : ℕ) → Announced (old q) t → Announced (new q) t
-  announced_still q t a = elim (cases_eq q p) [
-    | inl i ↦ subst (λ z. Announced (new z) t) (sym i)
-        (subst (λ z. Announced z t) (sym g.own)
-        (Announced-before (old p) ds t (subst (λ z. Announced (old z) t) i a)))
-    | inr ne ↦ subst (λ z. Announced z t) (sym (g.others q ne)) a
-  ]
+  announced_still q t a = grind (arith, common_steps, cases_eq, Announced-before)
 
   pub elected_still : (q t o : ℕ) → Elected (old q) t o → Elected (new q) t o
-  elected_still q t o a = elim (cases_eq q p) [
-    | inl i ↦ subst (λ z. Elected (new z) t o) (sym i)
-        (subst (λ z. Elected z t o) (sym g.own)
-        (Elected-before (old p) ds t o (subst (λ z. Elected (old z) t o) i a)))
-    | inr ne ↦ subst (λ z. Elected z t o) (sym (g.others q ne)) a
-  ]
+  elected_still q t o a = grind (arith, common_steps, cases_eq, Elected-before)
 
   pub took_still : (q t i : ℕ) → Took (old q) t i → Took (new q) t i
-  took_still q t i a = elim (cases_eq q p) [
-    | inl j ↦ subst (λ z. Took (new z) t i) (sym j)
-        (subst (λ z. Took z t i) (sym g.own)
-        (Took-before (old p) ds t i (subst (λ z. Took (old z) t i) j a)))
-    | inr ne ↦ subst (λ z. Took z t i) (sym (g.others q ne)) a
-  ]
+  took_still q t i a = grind (arith, common_steps, cases_eq, Took-before)
 
   pub elected_from : (q t o : ℕ) → Elected (new q) t o
       → Elected (old q) t o ⊎ ((q ≡ p) × Elected ds t o)
-  elected_from q t o a = elim (cases_eq q p) [
-    | inl i ↦
-        elim (Elected-split (old p) ds t o
-        (subst (λ z. Elected z t o) g.own (subst (λ z. Elected (new z) t o) i a))) [
-          | inl l ↦ inl (subst (λ z. Elected (old z) t o) (sym i) l)
-          | inr r ↦ inr (i, r)
-        ]
-    | inr ne ↦ inl (subst (λ z. Elected z t o) (g.others q ne) a)
-  ]
+  elected_from q t o a = grind (arith, common_steps, cases_eq, Elected-split)
 
   pub took_from : (q t i : ℕ) → Took (new q) t i
       → Took (old q) t i ⊎ ((q ≡ p) × ((j : ℕ) × (i ≡ length (old p) + j) × Took ds t j))
@@ -182,11 +119,7 @@ module _ (p : ℕ) (ds : List Action) (old new : ℕ → List Action) (g : Longe
   takers_more owners t f ch answer ds_are many own h = record {
     took = λ u s e. elim (at_end u s e) [
       | inl l ↦ (let k = h.took u s l in (k.0, took_still s u k.0 k.1))
-      | inr r ↦ (
-        length (old p) + 0,
-        subst (λ z. Took (new z) u (length (old p) + 0)) (sym r.1)
-            (subst (λ z. Took (new p) z (length (old p) + 0)) (sym r.0) taken),
-      )
+      | inr r ↦ grind (arith, common_steps, length, taken)
     ];
     elected = λ u s e. elim (at_end u s e) [
       | inl l ↦ elected_still s u s (h.elected u s l)
@@ -197,9 +130,7 @@ module _ (p : ℕ) (ds : List Action) (old new : ℕ → List Action) (g : Longe
       | inl l ↦
           (let e = h.only u s i l in
           push_beside owners p u (let w = slice_get_within owners u s e in omega arith) ∙ e)
-      | inr r ↦
-          (let b = from_ds u r.1.0 r.1.2 in
-          push_here owners p u (sym b.0 ∙ sym many) ∙ ap Some (sym r.0))
+      | inr r ↦ grind (arith, common_steps, from_ds, push_here)
     ];
     once = λ u s i j a b. elim (took_from s u i a) [
       | inl l ↦ elim (took_from s u j b) [
@@ -208,9 +139,7 @@ module _ (p : ℕ) (ds : List Action) (old new : ℕ → List Action) (g : Longe
       ]
       | inr q ↦ elim (took_from s u j b) [
         | inl m ↦ absurd (earlier u s j m q.1.0 q.1.2)
-        | inr r ↦
-            (let x = (from_ds u q.1.0 q.1.2).1 in
-            let y = (from_ds u r.1.0 r.1.2).1 in let z = q.1.1 in let w = r.1.1 in omega arith)
+        | inr r ↦ grind (arith, common_steps, from_ds)
       ]
     ];
   } where
@@ -226,10 +155,7 @@ module _ (p : ℕ) (ds : List Action) (old new : ℕ → List Action) (g : Longe
     }
 
     from_ds : (u i : ℕ) → Took ds u i → (t ≡ u) × (i ≡ 0)
-    from_ds u i a =
-        let b =
-        one_took (Some t) kind.TakePage f ch answer u i (subst (λ z. Took z u i) ds_are a) in
-        (same_Some _ _ b.1, b.0)
+    from_ds u i a = grind (arith, one_took, same_Some)
 
     earlier : (u s i : ℕ) → Took (old s) u i → (j : ℕ) → Took ds u j → ⊥
     earlier u s i l j a =
@@ -238,12 +164,7 @@ module _ (p : ℕ) (ds : List Action) (old new : ℕ → List Action) (g : Longe
 
     at_end : (u s : ℕ) → slice_get (owners ++ p ∷ []) u ≡ Some s
         → (slice_get owners u ≡ Some s) ⊎ ((u ≡ t) × (s ≡ p))
-    at_end u s e = elim (got_split owners (p ∷ []) u s e) [
-      | inl l ↦ inl l
-      | inr r ↦
-          (let o = only_one p r.0 s r.2 in
-          inr ((let z = r.1 in let y = o.0 in omega arith), sym o.1))
-    ]
+    at_end u s e = grind (arith, got_split, only_one)
 
 -- ---- the tables
 -- a sender that has c' in place of c, in no election that it was not in before
@@ -261,13 +182,7 @@ module _ {E : Type 0} (X : Election E) (P : Protocol E (Unit {0}) ℕ)
     (h : Tables P x words senders old) where
   ahead_still : (q : ℕ) (d : Core E) (t : ℕ) → senders' q ≡ Some d → next_tenure d ≤ t
       → h.elections t q ≡ None
-  ahead_still q d t e l = elim (cases_eq q p) [
-    | inl i ↦
-        let same : c' ≡ d = same_Some _ _ (sym f.now ∙ ap senders' (sym i) ∙ e) in
-        ap (h.elections t) i
-        ∙ h.ahead p c t f.before (let a = f.rises in let b = ap next_tenure same in omega arith)
-    | inr ne ↦ h.ahead q d t (sym (f.others q ne) ∙ e) l
-  ]
+  ahead_still q d t e l = grind (arith, common_steps, cases_eq, same_Some, next_tenure)
 
   -- no election is stepped in, and none ends
   pub tables_stay : Agree 2 (x.rows * P.width x.senders) words words'
@@ -275,10 +190,7 @@ module _ {E : Type 0} (X : Election E) (P : Protocol E (Unit {0}) ℕ)
       → ((t o : ℕ) → Elected ds t o → ⊥) → Tables P x words' senders' new
   tables_stay agree same plain = record {
     elections = h.elections;
-    kept = λ t l.
-        let apart = row_within t x.rows (P.width x.senders) l in
-        laws.frame x.senders (2 + t * P.width x.senders) words words' (h.elections t)
-        (h.elections t) (h.kept t l) (λ r a b. agree r (omega arith) (omega arith)) (λ q. refl);
+    kept = λ t l. grind (arith, common_steps, row_within);
     ahead = ahead_still;
     electing = λ q d t e i a. elim (cases_eq q p) [
       | inl j ↦
@@ -332,45 +244,17 @@ module _ {E : Type 0} (X : Election E) (P : Protocol E (Unit {0}) ℕ)
     pub tables_step : Tables P x words' senders' new
     tables_step = record {
       elections = rows_now;
-      kept = λ u l. elim (cases_eq u t) [
-        | inl i ↦ subst (λ z. P.Keeps x.senders (2 + z * P.width x.senders) words' (rows_now z))
-            (sym i) (subst (λ z. P.Keeps x.senders (2 + t * P.width x.senders) words' z)
-            (sym (put_here t row h.elections)) kept_now)
-        | inr ne ↦ subst (λ z. P.Keeps x.senders (2 + u * P.width x.senders) words' z)
-            (sym (put_beside t row h.elections u ne))
-            (laws.frame x.senders (2 + u * P.width x.senders) words words' (h.elections u)
-            (h.elections u) (h.kept u l) (agree u l ne) (λ q. refl))
-      ];
-      ahead = λ q d u e l. elim (cell u q) [
-        | inl i ↦ absurd (let same : c' ≡ d =
-            same_Some _ _ (sym f.now ∙ ap senders' (sym i.1) ∙ e) in
-            let b = ap next_tenure same in let a = i.0 in omega arith)
-        | inr o ↦ o ∙ ahead_still q d u e l
-      ];
+      kept = λ u l. grind (arith, common_steps, cases_eq, put_here, put_beside);
+      ahead = λ q d u e l. grind (arith, common_steps, cell, same_Some, next_tenure, ahead_still);
       electing = λ q d u e i a. elim (cases_eq q p) [
-        | inl j ↦
-            let is : c' ≡ d = same_Some _ _ (sym f.now ∙ ap senders' (sym j) ∙ i) in
-            let b = phase_is u e (ap (λ (z : Core E). z.phase) is ∙ a) in
-            here_is u q (sym b.0) j ∙ ap Some b.1
+        | inl j ↦ grind (arith, common_steps, same_Some, here_is)
         | inr ne ↦ elim (cell u q) [
           | inl i ↦ absurd (ne i.1)
           | inr o ↦ o ∙ h.electing q d u e (sym (f.others q ne) ∙ i) a
         ]
       ];
-      announced = λ u s e. elim (cell u s) [
-        | inl i ↦ subst (λ z. Announced (new z) u) (sym i.1)
-            (subst (λ z. Announced (new p) z) (sym i.0)
-            (announces (ap (of_some (counted_input P)) (sym (here_is u s i.0 i.1)) ∙ e)))
-        | inr o ↦ announced_still p ds old new g s u
-            (h.announced u s (ap (of_some (counted_input P)) (sym o) ∙ e))
-      ];
-      elected = λ u s o e. elim (cell u s) [
-        | inl i ↦ subst (λ z. Elected (new z) u o) (sym i.1)
-            (subst (λ z. Elected (new p) z o) (sym i.0)
-            (elects o (ap (of_some P.output) (sym (here_is u s i.0 i.1)) ∙ e)))
-        | inr d ↦
-            elected_still p ds old new g s u o (h.elected u s o (ap (of_some P.output) (sym d) ∙ e))
-      ];
+      announced = λ u s e. grind (arith, common_steps, cell, here_is, announced_still);
+      elected = λ u s o e. grind (arith, common_steps, cell, here_is, elected_still);
       only_elected = λ u s o a. elim (elected_from p ds old new g s u o a) [
         | inl l ↦ (let b = h.only_elected u s o l in elim (cell u s) [
           | inl i ↦ absurd (unended o (ap (λ z. of_some P.output (h.elections z p)) (sym i.0)

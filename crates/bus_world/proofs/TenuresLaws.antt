@@ -6,6 +6,7 @@ use mathlib.Core.Path.{fun_ext}
 use Rattle.std.proofs.lemmas.Bool.{cases_eq, cases_lt}
 use Rattle.std.proofs.lemmas.List.{length_push}
 use Rattle.std.proofs.lemmas.Option.{same_Some, slice_get_past}
+use Rattle.std.proofs.lemmas.Grind.{common_steps}
 use Rattle.bus_register.specs.declared.registers.Op.{Op}
 use Rattle.bus_register.specs.Words.{register}
 use Rattle.bus_register.specs.Tables.{of_some, Beside, put, Agree, Stepped}
@@ -59,10 +60,7 @@ module _ {E : Type 0} (op : E → ℕ → Option Op) (fed : E → ℕ → ℕ �
         (subst (λ z. Tenures P n rows at words' stage home standing z owners') (sym (fun_ext d))
         (subst (λ z. Tenures P n rows at words' stage home standing least z) (sym e) record {
           elections = h.elections;
-          kept = λ t l.
-              let apart = row_within t rows (P.width n) l in
-              laws.frame n (at + t * P.width n) words words' (h.elections t) (h.elections t)
-              (h.kept t l) (λ r u v. agree r (omega arith) (omega arith)) (λ q. refl);
+          kept = λ t l. grind (arith, common_steps, row_within);
           ended = h.ended;
           stage_is = h.stage_is;
           begun = h.begun;
@@ -77,20 +75,11 @@ module _ {E : Type 0} (op : E → ℕ → Option Op) (fed : E → ℕ → ℕ �
       past_stays : (t q : ℕ) (e : E) → q ≢ p
           → (t < least q) ⊎ ((standing q ≡ Some (Runs t e)) ⊎ (standing q ≡ Some (Holds t)))
           → (t < least' q) ⊎ ((standing' q ≡ Some (Runs t e)) ⊎ (standing' q ≡ Some (Holds t)))
-      past_stays t q e ne c = elim c [
-        | inl l ↦ inl (let z = less q ne in omega arith)
-        | inr d ↦ elim d [
-          | inl x ↦ inr (inl (beside q ne ∙ x))
-          | inr x ↦ inr (inr (beside q ne ∙ x))
-        ]
-      ]
+      past_stays t q e ne c = grind (arith, common_steps)
 
       served_stays : (t q : ℕ) → q ≢ p → (t < least q) ⊎ (standing q ≡ Some (Holds t))
           → (t < least' q) ⊎ (standing' q ≡ Some (Holds t))
-      served_stays t q ne c = elim c [
-        | inl l ↦ inl (let z = less q ne in omega arith)
-        | inr x ↦ inr (beside q ne ∙ x)
-      ]
+      served_stays t q ne c = grind (arith, common_steps)
 
     -- a sender that rests may be past more tenures
     pub raises : (p : ℕ) (least' : ℕ → ℕ) → standing p ≡ Some Rests → Beside p least least'
@@ -105,18 +94,9 @@ module _ {E : Type 0} (op : E → ℕ → Option Op) (fed : E → ℕ → ℕ �
           kept = h.kept;
           ended = h.ended;
           stage_is = h.stage_is;
-          begun = λ t q e f.
-              let b = h.begun t q e f in
-              (b.0, elim b.1 [ inl l ↦ inl (let z = mono q in omega arith) | inr d ↦ inr d ]);
-          electing = λ q t e f. let b = h.electing q t e f in (
-            b.0,
-            elim (cases_eq q p) [
-              | inl i ↦ absurd (resting_no_electing t e
-                  (same_Some _ _ (sym rests ∙ ap standing (sym i) ∙ f)))
-              | inr ne ↦ (let z = beside q ne in let y = b.1 in omega arith)
-            ],
-            b.2,
-          );
+          begun = λ t q e f. grind (arith, common_steps);
+          electing = λ q t e f.
+              grind (arith, common_steps, cases_eq, resting_no_electing, same_Some);
           holding = λ q t f. let b = h.holding q t f in (
             b.0,
             b.1,
@@ -153,50 +133,21 @@ module _ {E : Type 0} (op : E → ℕ → Option Op) (fed : E → ℕ → ℕ �
       stayed : (u : ℕ) (e : E)
           → (u < least p) ⊎ ((standing p ≡ Some (Runs u e)) ⊎ (standing p ≡ Some (Holds u)))
           → u < least p
-      stayed u e c = elim c [
-        | inl l ↦ l
-        | inr d ↦ absurd (elim d [
-          | inl x ↦ resting_no_electing u e (same_Some _ _ (sym rests ∙ x))
-          | inr x ↦ resting_no_holding u (same_Some _ _ (sym rests ∙ x))
-        ])
-      ]
+      stayed u e c = grind (arith, common_steps, resting_no_electing, same_Some, resting_no_holding)
 
       absent : h.elections t p ≡ None
-      absent = elim (some_or_none (h.elections t p)) [
-        | inl none ↦ none
-        | inr some ↦ absurd (let l = stayed t some.0 (h.begun t p some.0 some.1).1 in omega arith)
-      ]
+      absent = grind (arith, common_steps, some_or_none, stayed)
 
       begun_row : (q : ℕ) (e : E) → row q ≡ Some e
           → (t ≤ h.ended)
           × ((t < least q) ⊎ ((standing' q ≡ Some (Runs t e)) ⊎ (standing' q ≡ Some (Holds t))))
-      begun_row q e f = elim (cases_eq q p) [
-        | inl i ↦ (
-          opened,
-          inr
-              (inl (ap standing' i ∙ now
-              ∙ ap (λ z. Some (Runs t z)) (same_Some _ _
-              (sym (put_here p (Some start) (h.elections t)) ∙ ap row (sym i) ∙ f)))),
-        )
-        | inr ne ↦
-            let b = h.begun t q e (sym (put_beside p (Some start) (h.elections t) q ne) ∙ f) in
-            (b.0, past_stays p standing' beside least (λ z d. refl) t q e ne b.1)
-      ]
+      begun_row q e f =
+          grind (arith, common_steps, cases_eq, opened, same_Some, put_here, put_beside, past_stays)
 
       begun_other : (u q : ℕ) (e : E) → h.elections u q ≡ Some e
           → (u ≤ h.ended)
           × ((u < least q) ⊎ ((standing' q ≡ Some (Runs u e)) ⊎ (standing' q ≡ Some (Holds u))))
-      begun_other u q e f = let b = h.begun u q e f in (
-        b.0,
-        elim (cases_eq q p) [
-          | inl i ↦ inl (let l = stayed u e
-              (subst (λ z.
-              (u < least z) ⊎ ((standing z ≡ Some (Runs u e)) ⊎ (standing z ≡ Some (Holds u)))) i
-              b.1) in
-              subst (λ z. u < least z) (sym i) l)
-          | inr ne ↦ past_stays p standing' beside least (λ z d. refl) u q e ne b.1
-        ],
-      )
+      begun_other u q e f = grind (arith, common_steps, cases_eq, stayed, past_stays)
 
       pub begins : Tenures P n rows at words stage home standing' least owners
       begins = record {
@@ -262,10 +213,7 @@ module _ {E : Type 0} (op : E → ℕ → Option Op) (fed : E → ℕ → ℕ �
             elim (cases_eq u t) [
               | inr d ↦ ap (λ z. z o) (put_beside t row h.elections u d) ∙ b.1.1
               | inl j ↦ elim (cases_eq o p) [
-                | inl i ↦ absurd (let bad : None ≡ Some b.1.0 =
-                    sym absent ∙ ap (h.elections t) (sym i) ∙ ap (λ z. h.elections z o) (sym j)
-                    ∙ b.1.1 in
-                    cc)
+                | inl i ↦ grind (arith, common_steps, absent)
                 | inr ne ↦
                     ap (λ z. rows_now z o) j ∙ ap (λ z. z o) (put_here t row h.elections)
                     ∙ put_beside p (Some start) (h.elections t) o ne
@@ -275,11 +223,7 @@ module _ {E : Type 0} (op : E → ℕ → Option Op) (fed : E → ℕ → ℕ �
             b.1.2,
           ),
           elim (cases_eq o p) [
-            | inl i ↦ inl (elim b.2 [
-              | inl l ↦ l
-              | inr x ↦ absurd
-                  (resting_no_holding u (same_Some _ _ (sym rests ∙ ap standing (sym i) ∙ x)))
-            ])
+            | inl i ↦ grind (arith, common_steps, resting_no_holding, same_Some)
             | inr ne ↦ served_stays p standing' beside least (λ z d. refl) u o ne b.2
           ],
         );
@@ -319,38 +263,14 @@ module _ {E : Type 0} (op : E → ℕ → Option Op) (fed : E → ℕ → ℕ �
       stepped_begun_row : (q : ℕ) (f : E) → stepped_row q ≡ Some f
           → (t ≤ h.ended)
           × ((t < least q) ⊎ ((standing' q ≡ Some (Runs t f)) ⊎ (standing' q ≡ Some (Holds t))))
-      stepped_begun_row q f g = elim (cases_eq q p) [
-        | inl i ↦ (
-          (h.begun t p e (h.electing p t e stands).2).0,
-          inr
-              (inl (ap standing' i ∙ now
-              ∙ ap (λ z. Some (Runs t z)) (same_Some _ _
-              (sym (put_here p (Some later) (h.elections t)) ∙ ap stepped_row (sym i) ∙ g)))),
-        )
-        | inr ne ↦
-            let b = h.begun t q f (sym (put_beside p (Some later) (h.elections t) q ne) ∙ g) in
-            (b.0, past_stays p standing' beside least (λ z d. refl) t q f ne b.1)
-      ]
+      stepped_begun_row q f g =
+          grind (arith, common_steps, cases_eq, same_Some, put_here, put_beside, past_stays)
 
       stepped_begun_other : (u q : ℕ) (f : E) → u ≢ t → h.elections u q ≡ Some f
           → (u ≤ h.ended)
           × ((u < least q) ⊎ ((standing' q ≡ Some (Runs u f)) ⊎ (standing' q ≡ Some (Holds u))))
-      stepped_begun_other u q f d g = let b = h.begun u q f g in (
-        b.0,
-        elim (cases_eq q p) [
-          | inl i ↦ inl (elim b.1 [
-            | inl l ↦ l
-            | inr c ↦ absurd (elim c [
-              | inl x ↦ d
-                  (sym
-                  (same_Electing t u e f (same_Some _ _ (sym stands ∙ ap standing (sym i) ∙ x))).0)
-              | inr x ↦
-                  electing_no_holding t u e (same_Some _ _ (sym stands ∙ ap standing (sym i) ∙ x))
-            ])
-          ])
-          | inr ne ↦ past_stays p standing' beside least (λ z y. refl) u q f ne b.1
-        ],
-      )
+      stepped_begun_other u q f d g =
+          grind (arith, cases_eq, same_Electing, same_Some, electing_no_holding, past_stays)
 
       pub elects : Tenures P n rows at words' stage home standing' least owners
       elects = record {
@@ -364,9 +284,7 @@ module _ {E : Type 0} (op : E → ℕ → Option Op) (fed : E → ℕ → ℕ �
               (put_here p (Some later) (h.elections t)) (put_beside p (Some later) (h.elections t))
               record {
                 here = step.here;
-                elsewhere = λ r a b ne.
-                    let apart = row_within t rows (P.width n) within_row.0 in
-                    step.elsewhere r (omega arith) (omega arith) ne;
+                elsewhere = λ r a b ne. grind (arith, common_steps, row_within, within_row);
               }))
           | inr ne ↦ subst (λ z. P.Keeps n (at + u * P.width n) words' z)
               (sym (put_beside t stepped_row h.elections u ne))
@@ -377,9 +295,7 @@ module _ {E : Type 0} (op : E → ℕ → Option Op) (fed : E → ℕ → ℕ �
               step.elsewhere r (omega arith) (omega arith) (elim (cases_lt u t) [
                 | inl x ↦
                     (let z = row_within u t (P.width n) x in let y = within_row.1 in omega arith)
-                | inr x ↦
-                    (let z = row_within t u (P.width n) (omega arith) in
-                    let y = within_row.2 in omega arith)
+                | inr x ↦ grind (arith, common_steps, row_within, within_row)
               ])) (λ q. refl))
         ];
         ended = h.ended;
@@ -431,11 +347,7 @@ module _ {E : Type 0} (op : E → ℕ → Option Op) (fed : E → ℕ → ℕ �
         ];
         owned = λ u v f. let b = h.owned u v f in
             elim (cases_eq u t) [
-              | inr d ↦ (
-                b.0,
-                (b.1.0, ap (λ z. z v) (put_beside t stepped_row h.elections u d) ∙ b.1.1, b.1.2),
-                owned_stays u v (λ i. d i) b.2,
-              )
+              | inr d ↦ grind (arith, common_steps, put_beside, owned_stays)
               | inl j ↦ elim (cases_eq v p) [
                 | inl i ↦ absurd (unserved u v j i b.1.0 b.1.1 b.1.2)
                 | inr ne ↦ (
@@ -455,24 +367,12 @@ module _ {E : Type 0} (op : E → ℕ → Option Op) (fed : E → ℕ → ℕ �
       } where
         owned_stays : (u v : ℕ) → u ≢ t → (u < least v) ⊎ (standing v ≡ Some (Holds u))
             → (u < least v) ⊎ (standing' v ≡ Some (Holds u))
-        owned_stays u v d c = elim (cases_eq v p) [
-          | inl i ↦ elim c [
-            | inl l ↦ inl l
-            | inr x ↦ absurd
-                (electing_no_holding t u e (same_Some _ _ (sym stands ∙ ap standing (sym i) ∙ x)))
-          ]
-          | inr ne ↦ served_stays p standing' beside least (λ z y. refl) u v ne c
-        ]
+        owned_stays u v d c = grind (arith, cases_eq, electing_no_holding, same_Some, served_stays)
 
         -- who takes a step has no output yet
         unserved : (u v : ℕ) → u ≡ t → v ≡ p → (f : E) → h.elections u v ≡ Some f
             → P.output f ≡ Some v → ⊥
-        unserved u v j i f g out =
-            let f_is : f ≡ e = same_Some _ _ (sym g ∙ ap (λ z. h.elections z v) j
-            ∙ ap (h.elections t) i ∙ (h.electing p t e stands).2) in
-            let none = laws.unended e word o next in
-            let bad : None ≡ Some v = sym none ∙ ap P.output (sym f_is) ∙ out in
-            cc
+        unserved u v j i f g out = grind (arith, same_Some)
 
     -- a sender that was elected finds the tenure open and the page at home
     pub finds_home : (p t : ℕ) (e : E) → standing p ≡ Some (Runs t e) → P.output e ≡ Some p
@@ -490,9 +390,7 @@ module _ {E : Type 0} (op : E → ℕ → Option Op) (fed : E → ℕ → ℕ �
               let same : o.0 ≡ p = only.equal o.0 p o.0 p (elected_at t o.0 w.1.0 o.0 w.1.1 w.1.2)
               (elected_at t p e p b.2 out) in
               elim w.2 [
-                | inl x ↦
-                    (let z : t < least p = subst (λ y. t < least y) same x in
-                    let y = b.1 in omega arith)
+                | inl x ↦ grind (arith, common_steps)
                 | inr x ↦ electing_no_holding t t e
                     (same_Some _ _ (sym stands ∙ ap standing (sym same) ∙ x))
               ])
@@ -520,14 +418,7 @@ module _ {E : Type 0} (op : E → ℕ → Option Op) (fed : E → ℕ → ℕ �
       past_it : (v : ℕ) (f : E)
           → (v < least p) ⊎ ((standing p ≡ Some (Runs v f)) ⊎ (standing p ≡ Some (Holds v)))
           → v < least' p
-      past_it v f c = let b = (h.electing p t e stands).1 in elim c [
-        | inl l ↦ omega arith
-        | inr d ↦ elim d [
-          | inl x ↦
-              (let z = (same_Electing t v e f (same_Some _ _ (sym stands ∙ x))).0 in omega arith)
-          | inr x ↦ absurd (electing_no_holding t v e (same_Some _ _ (sym stands ∙ x)))
-        ]
-      ]
+      past_it v f c = grind (arith, common_steps, same_Electing, same_Some, electing_no_holding)
 
       pub loses : Tenures P n rows at words stage home standing' least' owners
       loses = record {
@@ -542,24 +433,8 @@ module _ {E : Type 0} (op : E → ℕ → Option Op) (fed : E → ℕ → ℕ �
             | inr ne ↦ beside q ne ∙ d
           ])
         ];
-        begun = λ v q f g. let b = h.begun v q f g in (
-          b.0,
-          elim (cases_eq q p) [
-            | inl i ↦ inl (subst (λ z. v < least' z) (sym i)
-                (past_it v f
-                (subst (λ z.
-                (v < least z) ⊎ ((standing z ≡ Some (Runs v f)) ⊎ (standing z ≡ Some (Holds v)))) i
-                b.1)))
-            | inr ne ↦ past_stays p standing' beside least' less v q f ne b.1
-          ],
-        );
-        electing = λ q v f g. elim (cases_eq q p) [
-          | inl i ↦
-              absurd (resting_no_electing v f (same_Some _ _ (sym now ∙ ap standing' (sym i) ∙ g)))
-          | inr ne ↦
-              let b = h.electing q v f (sym (beside q ne) ∙ g) in
-              (b.0, (let z = less q ne in let y = b.1 in omega arith), b.2)
-        ];
+        begun = λ v q f g. grind (arith, common_steps, cases_eq, past_it, past_stays);
+        electing = λ q v f g. grind (arith, common_steps, cases_eq, resting_no_electing, same_Some);
         holding = λ q v f. elim (cases_eq q p) [
           | inl i ↦
               absurd (resting_no_holding v (same_Some _ _ (sym now ∙ ap standing' (sym i) ∙ f)))
@@ -571,13 +446,7 @@ module _ {E : Type 0} (op : E → ℕ → Option Op) (fed : E → ℕ → ℕ �
           b.0,
           b.1,
           elim (cases_eq q p) [
-            | inl i ↦ inl (subst (λ z. v < least' z) (sym i) (elim b.2 [
-              | inl l ↦
-                  (let y = (h.electing p t e stands).1 in
-                  let l' = subst (λ z. v < least z) i l in omega arith)
-              | inr x ↦ absurd
-                  (electing_no_holding t v e (same_Some _ _ (sym stands ∙ ap standing (sym i) ∙ x)))
-            ]))
+            | inl i ↦ grind (arith, common_steps, electing_no_holding, same_Some)
             | inr ne ↦ served_stays p standing' beside least' less v q ne b.2
           ],
         );
@@ -593,20 +462,8 @@ module _ {E : Type 0} (op : E → ℕ → Option Op) (fed : E → ℕ → ℕ �
       taken_past : (v q : ℕ) (f : E) → h.elections v q ≡ Some f
           → (v < least q) ⊎ ((standing q ≡ Some (Runs v f)) ⊎ (standing q ≡ Some (Holds v)))
           → (v < least q) ⊎ ((standing' q ≡ Some (Runs v f)) ⊎ (standing' q ≡ Some (Holds v)))
-      taken_past v q f g c = elim (cases_eq q p) [
-        | inr ne ↦ past_stays p standing' beside least (λ z y. refl) v q f ne c
-        | inl i ↦ elim c [
-          | inl l ↦ inl l
-          | inr d ↦ inr (inr (elim d [
-            | inl x ↦
-                ap standing' i ∙ now
-                ∙ ap (λ z. Some (Holds z))
-                (same_Electing t v e f (same_Some _ _ (sym stands ∙ ap standing (sym i) ∙ x))).0
-            | inr x ↦ absurd
-                (electing_no_holding t v e (same_Some _ _ (sym stands ∙ ap standing (sym i) ∙ x)))
-          ]))
-        ]
-      ]
+      taken_past v q f g c =
+          grind (arith, cases_eq, past_stays, same_Electing, same_Some, electing_no_holding)
 
       nobody_held : (q v : ℕ) → standing q ≡ Some (Holds v) → ⊥
       nobody_held q v f = let b = h.holding q v f in let z = found.0 in omega (arith, b.1)
@@ -620,11 +477,7 @@ module _ {E : Type 0} (op : E → ℕ → Option Op) (fed : E → ℕ → ℕ �
             (length_push owners p ∙ (let z = found.2 in let y = found.3 in omega arith))
             (now ∙ ap (λ z. Some (Holds z)) (sym found.3));
         begun = λ v q f g. let b = h.begun v q f g in (b.0, taken_past v q f g b.1);
-        electing = λ q v f g. elim (cases_eq q p) [
-          | inl i ↦ absurd
-              (electing_no_holding v t f (sym (same_Some _ _ (sym now ∙ ap standing' (sym i) ∙ g))))
-          | inr ne ↦ h.electing q v f (sym (beside q ne) ∙ g)
-        ];
+        electing = λ q v f g. grind (arith, common_steps, cases_eq, electing_no_holding, same_Some);
         holding = λ q v f. elim (cases_eq q p) [
           | inl i ↦
               let s = same_Holding t v (same_Some _ _ (sym now ∙ ap standing' (sym i) ∙ f)) in (
@@ -647,23 +500,8 @@ module _ {E : Type 0} (op : E → ℕ → Option Op) (fed : E → ℕ → ℕ �
             ],
           )
           | inr g ↦ elim (cases_lt (length owners) v) [
-            | inl past ↦ absurd (let z =
-                push_beside owners p v (omega arith) ∙ slice_get_past owners v (omega arith) in
-                let bad : None ≡ Some o = sym z ∙ f in let no : ⊥ = cc in no)
-            | inr last ↦
-                let v_is : v ≡ length owners = omega arith in
-                let at_t : v ≡ t = v_is ∙ found.2 in
-                let o_is : p ≡ o = same_Some _ _ (sym (push_here owners p (length owners) refl)
-                ∙ ap (slice_get (owners ++ p ∷ [])) (sym v_is) ∙ f) in
-                let b = h.electing p t e stands in (
-                  (let y = b.0 in omega arith),
-                  (
-                    e,
-                    ap (λ z. h.elections z o) at_t ∙ ap (h.elections t) (sym o_is) ∙ b.2,
-                    out ∙ ap Some o_is,
-                  ),
-                  inr (ap standing' (sym o_is) ∙ now ∙ ap (λ z. Some (Holds z)) (sym at_t)),
-                )
+            | inl past ↦ grind (arith, common_steps, push_beside, slice_get_past)
+            | inr last ↦ grind (arith, common_steps, length, found, same_Some, push_here, slice_get)
           ]
         ];
       }
@@ -683,58 +521,26 @@ module _ {E : Type 0} (op : E → ℕ → Option Op) (fed : E → ℕ → ℕ �
       given_past : (v q : ℕ) (f : E)
           → (v < least q) ⊎ ((standing q ≡ Some (Runs v f)) ⊎ (standing q ≡ Some (Holds v)))
           → (v < least' q) ⊎ ((standing' q ≡ Some (Runs v f)) ⊎ (standing' q ≡ Some (Holds v)))
-      given_past v q f c = elim (cases_eq q p) [
-        | inr ne ↦ past_stays p standing' beside least' less v q f ne c
-        | inl i ↦ inl (subst (λ z. v < least' z) (sym i) (elim c [
-          | inl l ↦
-              (let a : v < least p = subst (λ z. v < least z) i l in let b = held.3 in omega arith)
-          | inr d ↦ elim d [
-            | inl x ↦ absurd (electing_no_holding v t f
-                (sym (same_Some _ _ (sym stands ∙ ap standing (sym i) ∙ x))))
-            | inr x ↦
-                (let z = same_Holding t v (same_Some _ _ (sym stands ∙ ap standing (sym i) ∙ x)) in
-                omega arith)
-          ]
-        ]))
-      ]
+      given_past v q f c =
+          grind (arith, cases_eq, past_stays, held, electing_no_holding, same_Some, same_Holding)
 
       pub gives : Tenures P n rows at words (2 * t + 2) true standing' least' owners
       gives = record {
         elections = h.elections;
         kept = h.kept;
         ended = h.ended + 1;
-        stage_is = Open (let z = held.0 in omega arith) refl (elim h.stage_is [
-          | Open a b c ↦ absurd (let z = held.0 in let y = held.1 in omega arith)
-          | Held q a b c d ↦ c
-        ]);
+        stage_is = grind (arith, common_steps, held);
         begun = λ v q f g.
             let b = h.begun v q f g in ((let z = b.0 in omega arith), given_past v q f b.1);
-        electing = λ q v f g. elim (cases_eq q p) [
-          | inl i ↦
-              absurd (resting_no_electing v f (same_Some _ _ (sym now ∙ ap standing' (sym i) ∙ g)))
-          | inr ne ↦
-              let b = h.electing q v f (sym (beside q ne) ∙ g) in
-              (b.0, (let z = less q ne in let y = b.1 in omega arith), b.2)
-        ];
-        holding = λ q v f. elim (cases_eq q p) [
-          | inl i ↦
-              absurd (resting_no_holding v (same_Some _ _ (sym now ∙ ap standing' (sym i) ∙ f)))
-          | inr ne ↦ absurd (ne (only_holder q v (sym (beside q ne) ∙ f)))
-        ];
+        electing = λ q v f g. grind (arith, common_steps, cases_eq, resting_no_electing, same_Some);
+        holding = λ q v f.
+            grind (arith, common_steps, cases_eq, resting_no_holding, same_Some, only_holder);
         owned = λ v o f. let b = h.owned v o f in (
           b.0,
           b.1,
           elim (cases_eq o p) [
             | inr ne ↦ served_stays p standing' beside least' less v o ne b.2
-            | inl i ↦ inl (subst (λ z. v < least' z) (sym i) (elim b.2 [
-              | inl l ↦
-                  (let a : v < least p = subst (λ z. v < least z) i l in
-                  let z = held.3 in omega arith)
-              | inr x ↦
-                  (let z =
-                  same_Holding t v (same_Some _ _ (sym stands ∙ ap standing (sym i) ∙ x)) in
-                  omega arith)
-            ]))
+            | inl i ↦ grind (arith, common_steps, held, same_Holding, same_Some)
           ],
         );
       }
@@ -746,9 +552,7 @@ module _ {E : Type 0} (op : E → ℕ → Option Op) (fed : E → ℕ → ℕ �
       → Tenures P n rows at words 0 true standing (λ _. 0) []
   fresh words standing zero rest = record {
     elections = λ t p. None;
-    kept = λ t l.
-        let apart = row_within t rows (P.width n) l in
-        laws.fresh n (at + t * P.width n) words (λ r a b. zero r (omega arith) (omega arith));
+    kept = λ t l. grind (arith, common_steps, row_within);
     ended = 0;
     stage_is = Open refl refl refl;
     begun = λ t p e f. absurd cc;

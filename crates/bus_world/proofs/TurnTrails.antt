@@ -1,12 +1,13 @@
 -- A turn of a sender keeps what ties the trails to the senders' side.
-use Rattle.std.proofs.Common.{◌≡◌, ◌≢◌, ℕ, ◌+◌, ◌*◌, ◌/◌, ◌<◌, ◌≤◌, Bool, true, false, cond, ◌&&◌}
-use Rattle.std.proofs.Common.{◌==◌, nat_lt, nat_le, Option, Some, None, is_some, ◌⊎◌, inl, inr}
-use Rattle.std.proofs.Common.{List, [], ◌∷◌, ◌++◌, length, slice_get, slice_index, slice_set}
-use Rattle.std.proofs.Common.{arith, refl, sym, ◌∙◌, ap, subst}
+use Rattle.std.proofs.Common.{◌≡◌, ◌≢◌, ℕ, ◌+◌, ◌*◌, ◌/◌, ◌<◌, ◌≤◌, Bool, true, false, cond, ◌==◌}
+use Rattle.std.proofs.Common.{nat_lt, nat_le, Option, Some, None, is_some, ◌⊎◌, inl, inr, List, []}
+use Rattle.std.proofs.Common.{◌∷◌, ◌++◌, length, slice_get, slice_index, slice_set, arith, refl}
+use Rattle.std.proofs.Common.{sym, ◌∙◌, ap, subst}
 use Rattle.std.proofs.lemmas.Bool.{cases_lt, leb-false, true≢false}
 use Rattle.std.proofs.lemmas.Bool.Decides.{eqb_tells}
 use Rattle.std.proofs.lemmas.List.{append-nil}
 use Rattle.std.proofs.lemmas.Option.{same_Some, slice_get_within, none-some}
+use Rattle.std.proofs.lemmas.Grind.{common_steps}
 use Rattle.bus_register.specs.declared.kinds.Kind.{Kind}
 use Rattle.bus_register.specs.declared.kinds.Kind.TheVariants as kind
 use Rattle.bus_register.specs.declared.registers.Op.{Op}
@@ -17,12 +18,11 @@ use Rattle.bus_register.specs.Private.TableLaws.{put_here, put_beside, some_or_n
 use Rattle.bus_register.specs.Private.TableLaws.{get_set_other}
 use Rattle.bus_register.specs.Protocol.{Protocol, Laws, Starts, counted_input}
 use Rattle.bus_tenure.specs.Core.{Core, Election, Layout, log_at, row_at, frame_len, has_room}
-use Rattle.bus_tenure.specs.Core.{cell_of, is_empty, is_marking, is_closed}
-use Rattle.bus_tenure.specs.Situations.{Situation, IsClosed, IsIdle, IsSpent, LooksAtStage, Elects}
-use Rattle.bus_tenure.specs.Situations.{TakesPage, StoresWord, StoresLength, GivesBack}
-use Rattle.bus_tenure.specs.Situations.{situation_at, situation_of, resting, electing, holding}
-use Rattle.bus_tenure.specs.Situations.{core_begun, waits, core_elected, core_at_rest, answer_at}
-use Rattle.bus_tenure.specs.Situations.{op_at, kind_at}
+use Rattle.bus_tenure.specs.Core.{cell_of}
+use Rattle.bus_tenure.specs.Situations.{Situation, LooksAtStage, Elects, TakesPage, StoresWord}
+use Rattle.bus_tenure.specs.Situations.{StoresLength, GivesBack, situation_at, situation_of}
+use Rattle.bus_tenure.specs.Situations.{resting, electing, holding, core_begun, waits, core_elected}
+use Rattle.bus_tenure.specs.Situations.{core_at_rest, answer_at, op_at, kind_at}
 use Rattle.bus_tenure.specs.Private.LineParts.{tenure_at, chosen_at}
 use Rattle.bus_tenure.specs.declared.pages.Page.{Page}
 use Rattle.bus_tenure.specs.declared.phases.Reason.{Reason}
@@ -66,16 +66,7 @@ Ties P x side actions =
 
 pub longer_by : (p : ℕ) (ds : List Action) (D : ℕ → List Action)
     → Longer p ds D (λ q. D q ++ cond (q == p) ds [])
-longer_by p ds D = record {
-  own = elim (eqb_tells p p) [
-    | inl y ↦ ap (λ t. D p ++ cond t ds []) y.0
-    | inr n ↦ absurd (n.1 refl)
-  ];
-  others = λ q ne. elim (eqb_tells q p) [
-    | inl y ↦ absurd (ne y.1)
-    | inr n ↦ ap (λ t. D q ++ cond t ds []) n.0 ∙ append-nil (D q)
-  ];
-}
+longer_by p ds D = grind (arith, common_steps, eqb_tells, append-nil)
 
 taken_apart : {E : Type 0} (t u : ℕ) (f : E) → phase.Taken t ≡ phase.Electing u f → ⊥
 taken_apart t u f i = cc
@@ -83,30 +74,12 @@ taken_apart t u f i = cc
 module _ {E : Type 0} (c : Core E) (t : ℕ) (later : E) where
   elected_next : (owner : Option ℕ) → next_tenure (core_elected c t later owner) ≡ t + 1
   elected_next None = refl
-  elected_next (Some o) = by_test (o == c.me)
-    where
-      by_test : (b : Bool)
-          → next_tenure (cond b (record c { phase = phase.Electing t later }) (record c {
-            queue = record c.queue { busy = false };
-            least = t + 1;
-            phase = phase.Resting;
-          })) ≡ t + 1
-      by_test true = refl
-      by_test false = refl
+  elected_next (Some o) = grind (arith, common_steps, next_tenure)
 
   elected_phase : (owner : Option ℕ) (u : ℕ) (f : E)
       → (core_elected c t later owner).phase ≡ phase.Electing u f → (t ≡ u) × (later ≡ f)
   elected_phase None u f i = bus.same_electing t u later f i
-  elected_phase (Some o) u f i = by_test (o == c.me) i
-    where
-      by_test : (b : Bool)
-          → (cond b (record c { phase = phase.Electing t later }) (record c {
-            queue = record c.queue { busy = false };
-            least = t + 1;
-            phase = phase.Resting;
-          })).phase ≡ phase.Electing u f → (t ≡ u) × (later ≡ f)
-      by_test true j = bus.same_electing t u later f j
-      by_test false j = absurd (bus.resting_apart u f j)
+  elected_phase (Some o) u f i = grind (arith, common_steps, bus.same_electing, bus.resting_apart)
 
 module _ {base : ℕ → ℕ} {E : Type 0} (X : Election E) (P : Protocol E (Unit {0}) ℕ)
     (laws : Laws X.op X.fed P OneOwner) (x : Layout) (ok : IsLayout x)
@@ -160,11 +133,7 @@ module _ {base : ℕ → ℕ} {E : Type 0} (X : Election E) (P : Protocol E (Uni
     start = P.started x.senders p tt (2 + t * P.width x.senders)
 
     start_is : start ≡ X.started c.layout.senders c.me c.layout.rounds (row_at c.layout t)
-    start_is =
-        sym (starts x.senders p (2 + t * P.width x.senders))
-        ∙ ap (λ z. X.started x.senders p x.rounds (2 + t * z)) (sym width)
-        ∙ ap (λ z. X.started x.senders z x.rounds (row_at x t)) (sym part.me)
-        ∙ ap (λ (z : Layout). X.started z.senders c.me z.rounds (row_at z t)) (sym part.layout)
+    start_is = grind (arith, common_steps, part)
 
     few : x.senders ≤ 64
     few = let z = ok.senders in omega arith
@@ -282,9 +251,7 @@ module _ {base : ℕ → ℕ} {E : Type 0} (X : Election E) (P : Protocol E (Uni
           by_waits false e new = by_room (nat_le c.layout.rows (got / 2)) refl e new
 
       rest_kept : KeptTies (resting c)
-      rest_kept = choose (is_closed c.queue.phase) IsClosed _ idle
-          (choose (is_empty c.queue.messages && cond (is_marking c.queue.phase) false true) IsIdle _
-          idle (choose (nat_le c.layout.rows c.least) IsSpent LooksAtStage idle looks))
+      rest_kept = grind (arith, choose, idle, nat_le, looks)
 
     -- ---- an election
     module _ (t : ℕ) (e : E) (elects : c.phase ≡ phase.Electing t e) where
@@ -371,12 +338,7 @@ module _ {base : ℕ → ℕ} {E : Type 0} (X : Election E) (P : Protocol E (Uni
 
         other_row : (u : ℕ) → u < x.rows → u ≢ t
             → Agree (2 + u * P.width x.senders) (P.width x.senders) words words'
-        other_row u l ne r a b = step.elsewhere r (elim (cases_lt u t) [
-          | inl y ↦ (let z = row_within u t (P.width x.senders) y in let w = row.1 in omega arith)
-          | inr y ↦
-              (let z = row_within t u (P.width x.senders) (omega arith) in
-              let w = row.2 in omega arith)
-        ])
+        other_row u l ne r a b = grind (arith, cases_lt, row_within, row)
 
         action_at : slice_get (with_actions ds p) (length (D p) + 0) ≡ Some action
         action_at =
@@ -390,28 +352,10 @@ module _ {base : ℕ → ℕ} {E : Type 0} (X : Election E) (P : Protocol E (Uni
             by_begun true j = announced_still p ds D (with_actions ds) (longer_by p ds D) p t
                 (T.tables.announced t p
                 (ap (of_some (counted_input P)) local ∙ ap (λ b. cond b (Some (P.input e)) None) j))
-            by_begun false j =
-                let is : k ≡ kind.Announce = same_Some _ _ (sym kind_is ∙ announces e j) in
-                record {
-                  place = length (D p) + 0;
-                  found = found_now;
-                  chose = X.owner later;
-                  answer = answer;
-                  at =
-                      action_at
-                      ∙ ap (λ z. Some (Stepped (Some t) z found_now (X.owner later) answer)) is;
-                }
+            by_begun false j = grind (arith, common_steps, same_Some, length, action_at)
 
         elected_now : (v : ℕ) → P.output later ≡ Some v → Elected (with_actions ds p) t v
-        elected_now v i = record {
-          place = length (D p) + 0;
-          step = k;
-          found = found_now;
-          answer = answer;
-          at =
-              action_at
-              ∙ ap (λ z. Some (Stepped (Some t) k found_now z answer)) (owner_is later ∙ i);
-        }
+        elected_now v i = grind (arith, common_steps, length, action_at)
 
         abbrev c' : Core E
         c' = core_elected c t later (X.owner later)
@@ -452,11 +396,7 @@ module _ {base : ℕ → ℕ} {E : Type 0} (X : Election E) (P : Protocol E (Uni
               ]
 
               has_kind : (o : Op) → X.op e word ≡ Some o → (k : Kind) × (X.kind_of e ≡ Some k)
-              has_kind o next = elim (some_or_none (X.kind_of e)) [
-                | inr k ↦ k
-                | inl none ↦ absurd
-                    (true≢false (ap is_some (sym next) ∙ sym (named e word) ∙ ap is_some none))
-              ]
+              has_kind o next = grind (arith, common_steps, some_or_none, true≢false, is_some)
 
               by_step : (o : Op) → X.op e word ≡ Some o → KeptTies (Elects t e)
               by_step o next =

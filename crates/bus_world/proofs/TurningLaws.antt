@@ -1,15 +1,16 @@
 -- Each turn of a sender keeps what senders, words, page and owners keep, whatever the random word:
 -- said of words and senders by number, and then of the lists of a machine.
-use Rattle.std.proofs.Common.{◌≡◌, ◌≢◌, ℕ, ◌+◌, ◌*◌, ◌/◌, ◌%◌, ◌<◌, ◌≤◌, Bool, true, false, cond}
-use Rattle.std.proofs.Common.{◌&&◌, nat_lt, nat_le, Option, Some, None, ◌⊎◌, inl, inr, List, []}
-use Rattle.std.proofs.Common.{◌∷◌, ◌++◌, length, is_some, slice_get, slice_index, slice_set, arith}
-use Rattle.std.proofs.Common.{refl, sym, ◌∙◌, ap, subst}
+use Rattle.std.proofs.Common.{◌≡◌, ◌≢◌, ℕ, ◌+◌, ◌*◌, ◌/◌, ◌<◌, ◌≤◌, Bool, true, false, cond, ◌&&◌}
+use Rattle.std.proofs.Common.{nat_lt, nat_le, Option, Some, None, ◌⊎◌, inl, inr, List, [], ◌∷◌}
+use Rattle.std.proofs.Common.{◌++◌, length, is_some, slice_get, slice_index, slice_set, arith, refl}
+use Rattle.std.proofs.Common.{sym, ◌∙◌, ap, subst}
 use mathlib.Core.Path.{fun_ext}
 use Rattle.std.proofs.lemmas.Bool.{cases_eq, leb-false, leb-true, ltb-false, ltb-true, true≢false}
 use Rattle.std.proofs.lemmas.Bool.Decides.{eqb_tells}
 use Rattle.std.proofs.lemmas.List.{get_or-set_same, get_or-set_other}
 use Rattle.std.proofs.lemmas.Option.{same_Some, slice_get_within}
 use Rattle.std.proofs.Math.ListN.{length-set}
+use Rattle.std.proofs.lemmas.Grind.{common_steps}
 use Rattle.bus_register.specs.declared.registers.Op.{Op}
 use Rattle.bus_register.specs.declared.registers.Op.TheVariants.{Load, Store}
 use Rattle.bus_register.specs.Words.{register, after}
@@ -70,13 +71,7 @@ looks_has Closed messages spent h = absurd cc
 -- the stage shows a tenure that is open and may be entered
 pub open_stage : {E : Type 0} (c : Core E) (got : ℕ) → waits c got ≡ false
     → (got ≡ 2 * (got / 2)) × (c.least ≤ got / 2)
-open_stage c got e = elim (eqb_tells (got % 2) 0) [
-  | inl h ↦ (
-    let z = h.1 in omega arith,
-    ltb-false (got / 2) c.least (ap (λ b. cond b (nat_lt (got / 2) c.least) true) (sym h.0) ∙ e),
-  )
-  | inr h ↦ absurd (true≢false (ap (λ b. cond b (nat_lt (got / 2) c.least) true) (sym h.0) ∙ e))
-]
+open_stage c got e = grind (arith, common_steps, eqb_tells, ltb-false, nat_lt, true≢false)
 
 -- ---- the step that is due
 -- on words of a log without an end, where each of its words lies at its own place
@@ -94,10 +89,7 @@ Steps (Some o) words words' = bus.Changes o words words'
 -- a load changes no word
 loaded : (r : ℕ) (words words' : ℕ → ℕ) → bus.Changes (Load record { 0 = r }) words words' → (q : ℕ)
     → words' q ≡ words q
-loaded r words words' step q = elim (cases_eq q r) [
-  | inl i ↦ ap words' i ∙ step.here ∙ ap words (sym i)
-  | inr ne ↦ step.elsewhere q ne
-]
+loaded r words words' step q = grind (arith, common_steps, cases_eq)
 
 module _ {base : ℕ → ℕ} {E : Type 0} (X : Election E) (P : Protocol E (Unit {0}) ℕ)
     (laws : Laws X.op X.fed P OneOwner) (x : Layout) (ok : IsLayout x)
@@ -116,9 +108,7 @@ module _ {base : ℕ → ℕ} {E : Type 0} (X : Election E) (P : Protocol E (Uni
     runs = ap (of_some standing_of) old ∙ ap (λ z. Some (stands_at z)) elects
 
     own_output : (o : ℕ) → X.owner e ≡ Some o → P.output e ≡ Some p
-    own_output o own =
-        let out : P.output e ≡ Some o = sym (owner_is e) ∙ own in
-        out ∙ ap Some (h.chosen p c t e o old elects out)
+    own_output o own = grind (arith, common_steps)
 
     pub at_home : (o : ℕ) → X.owner e ≡ Some o → (page : Page) × (home ≡ Some page)
     at_home o own = by_home home refl
@@ -140,11 +130,7 @@ module _ {base : ℕ → ℕ} {E : Type 0} (X : Election E) (P : Protocol E (Uni
         h.tenures p t e word o runs next
 
     in_row : (o : Op) → X.op e word ≡ Some o → register o < words_of x
-    in_row o next =
-        let r = row o next in
-        let a = r.2 in
-        let b = row_within t x.rows (P.width x.senders) r.0 in
-        let f = ap (λ z. x.rows * z) width in omega arith
+    in_row o next = grind (arith, common_steps, row, row_within)
 
     -- and there is one where no owner is
     has_step : X.owner e ≡ None → (o : Op) × (X.op e word ≡ Some o)
@@ -198,31 +184,11 @@ module _ {base : ℕ → ℕ} {E : Type 0} (X : Election E) (P : Protocol E (Uni
       resting_fits = subst (Fits base words frames c) rests part.fits
 
       part_least : (k : ℕ) → Part base x words frames p (record c { least = k })
-      part_least k = record {
-        layout = part.layout;
-        me = part.me;
-        below = part.below;
-        sender = part.sender;
-        queue = part.queue;
-        fits = subst (Fits base words frames (record c { least = k })) (sym rests) resting_fits;
-      }
+      part_least k = grind (arith, common_steps, part, resting_fits)
 
       part_begun : (t : ℕ) → (c.queue.phase ≡ Closed → ⊥) → HasSomething c.queue
           → Part base x words frames p (core_begun X c t)
-      part_begun t is_open something = record {
-        layout = part.layout;
-        me = part.me;
-        below = part.below;
-        sender = part.sender;
-        queue = record {
-          few = part.queue.few;
-          each = part.queue.each;
-          numbers = part.queue.numbers;
-          alone = part.queue.alone;
-          owner_bits = part.queue.owner_bits;
-        };
-        fits = (record { busy = refl; is_open = is_open; something = something }, resting_fits.1);
-      }
+      part_begun t is_open something = grind (arith, common_steps, part, resting_fits)
 
       rows_is : c.layout.rows ≡ x.rows
       rows_is = ap (λ (z : Layout). z.rows) part.layout
@@ -233,11 +199,7 @@ module _ {base : ℕ → ℕ} {E : Type 0} (X : Election E) (P : Protocol E (Uni
       start_is : (t : ℕ)
           → P.started x.senders p tt (2 + t * P.width x.senders)
           ≡ X.started c.layout.senders c.me c.layout.rounds (row_at c.layout t)
-      start_is t =
-          sym (starts x.senders p (2 + t * P.width x.senders))
-          ∙ ap (λ z. X.started x.senders p x.rounds (2 + t * z)) (sym width)
-          ∙ ap (λ z. X.started x.senders z x.rounds (row_at x t)) (sym part.me)
-          ∙ ap (λ (z : Layout). X.started z.senders c.me z.rounds (row_at z t)) (sym part.layout)
+      start_is t = grind (arith, common_steps, part)
 
       -- it may begin any tenure that was opened
       pub begins_opened : (t : ℕ) → resting c ≡ LooksAtStage → 2 * t ≤ words 1 → c.least ≤ t
@@ -309,12 +271,8 @@ module _ {base : ℕ → ℕ} {E : Type 0} (X : Election E) (P : Protocol E (Uni
               → Kept (cond (is_closed ph) IsClosed
               (cond (is_empty c.queue.messages && cond (is_marking c.queue.phase) false true) IsIdle
               (cond (nat_le c.layout.rows c.least) IsSpent LooksAtStage)))
-          by_closed Open e = by_empty
-              (is_empty c.queue.messages && cond (is_marking c.queue.phase) false true)
-              (λ z. open_apart (sym e ∙ z)) refl
-          by_closed (Marking m) e = by_empty
-              (is_empty c.queue.messages && cond (is_marking c.queue.phase) false true)
-              (λ z. marking_apart m (sym e ∙ z)) refl
+          by_closed Open e = grind (arith, common_steps, by_empty, open_apart)
+          by_closed (Marking m) e = grind (arith, common_steps, by_empty, marking_apart)
           by_closed Closed e = idle
 
     -- ---- an election
@@ -378,13 +336,7 @@ module _ {base : ℕ → ℕ} {E : Type 0} (X : Election E) (P : Protocol E (Uni
               me = part.me;
               below = part.below;
               sender = part.sender;
-              queue = record {
-                few = part.queue.few;
-                each = part.queue.each;
-                numbers = part.queue.numbers;
-                alone = part.queue.alone;
-                owner_bits = part.queue.owner_bits;
-              };
+              queue = grind (arith, common_steps, part);
               fits = (refl, electing_fits.1);
             }
 
@@ -400,13 +352,7 @@ module _ {base : ℕ → ℕ} {E : Type 0} (X : Election E) (P : Protocol E (Uni
                 least = t + 1;
                 phase = phase.Resting;
               }))) y.0)
-          | inr y ↦ losing u i (λ g. y.1 (g ∙ sym part.me))
-              (now
-              ∙ ap (λ b. Some (cond b (record c { phase = phase.Electing t later }) (record c {
-                queue = record c.queue { busy = false };
-                least = t + 1;
-                phase = phase.Resting;
-              }))) y.0)
+          | inr y ↦ grind (arith, common_steps, losing, part)
         ]
 
       -- whatever its step is
@@ -583,12 +529,8 @@ module _ (words : List ℕ) where
   pub stepped-steps : (o : Option Op) → ((u : Op) → o ≡ Some u → register u < length words)
       → Steps o (slice_index words) (slice_index (words_after words o))
   stepped-steps None within = λ r. refl
-  stepped-steps (Some o) within = record {
-    here = get_or-set_same words (register o) (after o (slice_index words (register o))) 0
-        (within o refl);
-    elsewhere = λ r ne.
-        get_or-set_other words (register o) r (after o (slice_index words (register o))) 0 ne;
-  }
+  stepped-steps (Some o) within =
+      grind (arith, common_steps, get_or-set_same, register, after, slice_index, get_or-set_other)
 
 -- ---- a turn on lists
 module _ {base : ℕ → ℕ} {E : Type 0} (X : Election E) (P : Protocol E (Unit {0}) ℕ)

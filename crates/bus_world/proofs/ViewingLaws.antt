@@ -3,6 +3,7 @@ use Rattle.std.proofs.Common.{◌≡◌, ℕ, zero, suc, ◌+◌, ◌≤◌, Lis
 use Rattle.std.proofs.Common.{slice_index, arith, refl, sym, ◌∙◌, ap}
 use Rattle.std.proofs.lemmas.List.{get_or-drop, take_more, length-take, length-drop}
 use Rattle.std.proofs.lemmas.List.{take-append-drop, take-append-le, take_all}
+use Rattle.std.proofs.lemmas.Grind.{common_steps}
 use Rattle.bus_register.specs.declared.registers.SenderNo.{SenderNo}
 use Rattle.bus_batch.specs.Frames.{Frame, AreFrames, Order, log_words, log_pieces, order_in}
 use Rattle.bus_deliverylog.specs.Logs.{HasGiven}
@@ -27,9 +28,4 @@ pub front_given :
 front_given n k frames words order owners lawful e l h =
     let whole : log_words frames ≡ take k words ++ drop k words =
     sym e ∙ sym (take-append-drop k words) in
-    let c = h.read.covers frames (drop k words) lawful whole in
-    let many : length h.pieces ≡ k = h.read.many ∙ length-take k words ∙ (omega arith) in
-    let front : take k (log_pieces frames) ≡ h.pieces =
-    ap (take k) c.2 ∙ take-append-le k h.pieces c.0 (omega arith)
-    ∙ take_all k h.pieces (omega arith) in
-    h.order_is ∙ ap order_in (sym front)
+    grind (arith, common_steps, drop, length, length-take, take, take-append-le, take_all)

@@ -1,7 +1,7 @@
 -- Every event keeps the bus lawful, and a lawful bus keeps its promises.
-use Rattle.std.proofs.Common.{◌≡◌, ◌≢◌, ℕ, zero, suc, ◌+◌, ◌%◌, ◌<◌, ◌≤◌, Bool, true, false, cond}
-use Rattle.std.proofs.Common.{◌&&◌, ◌==◌, nat_lt, nat_le, Option, Some, None, ◌⊎◌, inl, inr, List}
-use Rattle.std.proofs.Common.{[], ◌∷◌, ◌++◌, length, map, take, slice_get, slice_index, slice_set}
+use Rattle.std.proofs.Common.{◌≡◌, ◌≢◌, ℕ, zero, suc, ◌+◌, ◌<◌, ◌≤◌, Bool, true, false, cond, ◌&&◌}
+use Rattle.std.proofs.Common.{◌==◌, nat_lt, nat_le, Option, Some, None, ◌⊎◌, inl, inr, List, []}
+use Rattle.std.proofs.Common.{◌∷◌, ◌++◌, length, map, take, slice_get, slice_index, slice_set}
 use Rattle.std.proofs.Common.{arith, refl, sym, ◌∙◌, ap, subst, append_assoc}
 use Rattle.std.specs.Prelude.{All}
 use Rattle.std.proofs.lemmas.Bool.{and_parts, cases_eq, cases_lt}
@@ -10,13 +10,13 @@ use Rattle.std.proofs.lemmas.List.{append-nil, length-append, length-replicate, 
 use Rattle.std.proofs.Math.Nat.{mod-eq_of_lt}
 use Rattle.std.proofs.Math.Seq.{take-nil}
 use Rattle.std.proofs.lemmas.Option.{same_Some, slice_get_within}
+use Rattle.std.proofs.lemmas.Grind.{common_steps}
 use Rattle.bus_register.specs.Protocol.{Protocol, Laws}
 use Rattle.bus_batch.specs.declared.batches.Phase.TheVariants.{Marking}
 use Rattle.bus_batch.specs.declared.messages.Mark.{Mark}
 use Rattle.bus_batch.specs.declared.messages.Item.{Item}
-use Rattle.bus_batch.specs.Frames.{AreFrames, IsBadWord, Frame, order_of, log_words, frame_words}
-use Rattle.bus_batch.specs.Frames.{log_pieces}
-use Rattle.bus_tenure.specs.Core.{Core, Election, Layout, log_at, words_of, is_empty}
+use Rattle.bus_batch.specs.Frames.{AreFrames, Frame, order_of, log_words, log_pieces}
+use Rattle.bus_tenure.specs.Core.{Core, Election, Layout, words_of, is_empty}
 use Rattle.bus_tenure.specs.Situations.{situation_of, line_of}
 use Rattle.bus_tenure.specs.declared.phases.Phase.{Phase as SenderPhase}
 use Rattle.bus_tenure.specs.declared.phases.Phase.TheVariants as phase
@@ -55,9 +55,7 @@ use Rattle.bus_world.proofs.Waiting.{accepted_by, accepted, waiting_at, put_by, 
 pub counted_at : (first : ℕ) (items : List Item) (k : ℕ) (i : Item) → AreCounted first items
     → slice_get items k ≡ Some i → i.number ≡ first + k
 counted_at first [] k i a e = absurd cc
-counted_at first (x ∷ items) zero i a e =
-    ap (λ (z : Item). z.number) (sym (same_Some _ _ e)) ∙ a.0
-    ∙ (let z : first ≡ first + 0 = omega arith in z)
+counted_at first (x ∷ items) zero i a e = grind (arith, common_steps, same_Some)
 counted_at first (x ∷ items) (suc k) i a e =
     counted_at (first + 1) items k i a.1 e
     ∙ (let z : first + 1 + k ≡ first + suc k = omega arith in z)
@@ -93,21 +91,13 @@ module _ (n : ℕ) (frames : List Frame) (len : ℕ) (lawful : AreFrames n frame
     (h : Receives n frames len v.place v.known v.frames) where
   pub received : HasReceived (take v.place (log_words frames)) (take v.place (log_pieces frames))
       (reading_of v)
-  received = record {
-    read = subst (λ z.
-        HasRead z (take v.place (log_words frames)) (take v.place (log_pieces frames)) v.frames)
-        (sym senders) h.has_read;
-    place = sym (length-take v.place (log_words frames)
-        ∙ (let a = h.place_below in let b = h.known_below in omega arith));
-  }
+  received = grind (arith, common_steps, take, length-take)
 
   module _ (got : ℕ) (found : IsFoundIn frames len v got) (answer : RecvTurn) (next : Receiving)
       (step : RecvStep v got answer next) where
     as_before : next.place ≡ v.place → next.known ≡ v.known → next.frames ≡ v.frames
         → Receives n frames len next.place next.known next.frames
-    as_before p k f = subst (λ z. Receives n frames len z next.known next.frames) (sym p)
-        (subst (λ z. Receives n frames len v.place z next.frames) (sym k)
-        (subst (λ z. Receives n frames len v.place v.known z) (sym f) h))
+    as_before p k f = grind (arith, common_steps)
 
     unmoved : next ≡ v → Receives n frames len next.place next.known next.frames
     unmoved e = as_before (ap (λ (z : Receiving). z.place) e) (ap (λ (z : Receiving). z.known) e)
@@ -121,10 +111,7 @@ module _ (n : ℕ) (frames : List Frame) (len : ℕ) (lawful : AreFrames n frame
         elim (cases_lt v.known got) [
           | inl more ↦ elim (cases_lt (v.log_words + v.passed) got) [
             | inl beyond ↦ unmoved (t.beyond more beyond).1
-            | inr within ↦ subst (λ (z : Receiving). Receives n frames len z.place z.known z.frames)
-                (sym (t.more more within).1)
-                (subst (λ k. Receives n frames len v.place k v.frames) (sym got_is)
-                (Receives-known n frames len v.place v.known v.frames h (omega arith)))
+            | inr within ↦ grind (arith, common_steps, Receives-known)
           ]
           | inr past ↦ unmoved (t.same (let a = h.known_below in omega arith)).1
         ]
@@ -136,9 +123,7 @@ module _ (n : ℕ) (frames : List Frame) (len : ℕ) (lawful : AreFrames n frame
         let word_is : slice_index (log_words frames) v.place ≡ got = sym (found.1 ne) in
         elim (step.at_word none ne (take v.place (log_words frames))
         (take v.place (log_pieces frames)) received) [
-          | inl bad ↦ absurd
-              (subst (λ z. IsBadWord z (take v.place (log_words frames)) got) senders bad.0
-              (goes_on n frames len v.place v.known v.frames h lawful size more got word_is))
+          | inl bad ↦ grind (arith, common_steps, take, goes_on)
           | inr good ↦
               let senders_now : next.frames.senders ≡ n = step.senders ∙ senders in
               subst (λ z. Receives n frames len z next.known next.frames)
@@ -154,14 +139,8 @@ module _ (n : ℕ) (frames : List Frame) (len : ℕ) (lawful : AreFrames n frame
 
     reads_step : (o : Option ℕ) → passing_due v ≡ o
         → Receives n frames len next.place next.known next.frames
-    reads_step None none = elim (cases_eq v.place v.known) [
-      | inl e ↦ at_length none e
-      | inr ne ↦ at_word none ne
-    ]
-    reads_step (Some at) due =
-        let t = (step.at_passed at due).1 in
-        as_before (ap (λ (z : Receiving). z.place) t) (ap (λ (z : Receiving). z.known) t)
-        (ap (λ (z : Receiving). z.frames) t)
+    reads_step None none = grind (arith, common_steps, cases_eq, at_length, at_word)
+    reads_step (Some at) due = grind (arith, common_steps, as_before)
 
   -- its place never falls
   pub place_rises : (got : ℕ) (answer : RecvTurn) (next : Receiving) → RecvStep v got answer next
@@ -172,19 +151,7 @@ module _ (n : ℕ) (frames : List Frame) (len : ℕ) (lawful : AreFrames n frame
       moved_on n e le = (let a = ap (λ (w : Receiving). w.place) e in omega arith)
 
       at_known : passing_due v ≡ None → v.place ≡ v.known → v.place ≤ next.place
-      at_known none e =
-          let t = step.at_length none e in
-          elim (cases_lt v.known got) [
-            | inl more ↦ elim (cases_lt (v.log_words + v.passed) got) [
-              | inl beyond ↦ moved_on v (t.beyond more beyond).1 (omega arith)
-              | inr within ↦
-                  moved_on (record v { known = got }) (t.more more within).1 (omega arith)
-            ]
-            | inr past ↦ elim (cases_eq got v.known) [
-              | inl i ↦ moved_on v (t.same i).1 (omega arith)
-              | inr ne ↦ moved_on v (t.less (omega arith)).1 (omega arith)
-            ]
-          ]
+      at_known none e = grind (arith, common_steps, cases_lt, moved_on, cases_eq)
 
       by_due : (o : Option ℕ) → passing_due v ≡ o → v.place ≤ next.place
       by_due None none = elim (cases_eq v.place v.known) [
@@ -206,9 +173,7 @@ module _ (n : ℕ) (frames : List Frame) (len : ℕ) (lawful : AreFrames n frame
     where
       by_end : (q : Bool) → v.ended ≡ q
           → (next.frames.senders ≡ n) × Receives n frames len next.place next.known next.frames
-      by_end true e = subst (λ (z : Receiving).
-          (z.frames.senders ≡ n) × Receives n frames len z.place z.known z.frames)
-          (sym (does.ended e).1) (senders, h)
+      by_end true e = grind (arith, common_steps)
       by_end false e = let step = does.going e in (
         step.senders ∙ senders,
         reads_step (recv_found words v) found answer next step (passing_due v) refl,
@@ -219,31 +184,11 @@ pub words_stay : (words : ℕ → ℕ) (v next : Receiving) (answer : RecvTurn)
     → RecvDoes words v answer next
     → (next.log_at ≡ v.log_at) × (next.length_at ≡ v.length_at) × (next.log_words ≡ v.log_words)
     × (next.passed_at ≡ v.passed_at) × (next.gone ≡ v.gone)
-words_stay words v next answer does = by_end v.ended refl
-  where
-    by_end : (q : Bool) → v.ended ≡ q
-        → (next.log_at ≡ v.log_at) × (next.length_at ≡ v.length_at)
-        × (next.log_words ≡ v.log_words) × (next.passed_at ≡ v.passed_at)
-        × (next.gone ≡ v.gone)
-    by_end true e = let same = (does.ended e).1 in (
-      ap (λ (z : Receiving). z.log_at) same,
-      ap (λ (z : Receiving). z.length_at) same,
-      ap (λ (z : Receiving). z.log_words) same,
-      ap (λ (z : Receiving). z.passed_at) same,
-      ap (λ (z : Receiving). z.gone) same,
-    )
-    by_end false e = (does.going e).keeps
+words_stay words v next answer does = grind (arith, common_steps)
 
 pub never_more : (words : ℕ → ℕ) (v next : Receiving) (answer : RecvTurn)
     → RecvDoes words v answer next → NeverPasses v → NeverPasses next
-never_more words v next answer does h = record {
-  never = (words_stay words v next answer does).3 ∙ h.never;
-  unpassed = by_end v.ended refl ∙ h.unpassed;
-} where
-  by_end : (q : Bool) → v.ended ≡ q → next.passed ≡ v.passed
-  by_end true e = ap (λ (z : Receiving). z.passed) (does.ended e).1
-  by_end false e =
-      ap (λ (z : Receiving). z.passed) ((does.going e).registers (no_due v h.never))
+never_more words v next answer does h = grind (arith, common_steps, words_stay, no_due)
 
 -- one that has left for good is what it was else
 pub never_left : (v : Receiving) → NeverPasses v → NeverPasses (with_leave v)
@@ -251,23 +196,15 @@ never_left v h = record { never = h.never; unpassed = h.unpassed }
 
 pub receiver_left : (x : Layout) (frames : List Frame) (len : ℕ) (v : Receiving)
     → IsReceiver x frames len v → IsReceiver x frames len (with_leave v)
-receiver_left x frames len v h = record {
-  senders = h.senders;
-  log = h.log;
-  len_at = h.len_at;
-  log_words = h.log_words;
-  receives = h.receives;
-}
+receiver_left x frames len v h = assumption
 
 -- what is so of each in a list stays so of each, where one is another of which it is so
 pub set_each : {A : Type 0} (xs : List A) (r : ℕ) (v now : A) → slice_get xs r ≡ Some v
     → (Q : ℕ → A → Type 0) → ((q : ℕ) (w : A) → slice_get xs q ≡ Some w → Q q w) → Q r now
     → (q : ℕ) (w : A) → slice_get (slice_set xs r now) q ≡ Some w → Q q w
 set_each xs r v now there Q each own q w e = elim (cases_eq q r) [
-  | inl j ↦ subst (λ n. Q n w) (sym j)
-      (subst (Q r) (same_Some _ _
-      (sym (get_set_same xs r now (slice_get_within xs r v there))
-      ∙ ap (slice_get (slice_set xs r now)) (sym j) ∙ e)) own)
+  | inl j ↦
+      grind (arith, common_steps, same_Some, get_set_same, slice_get_within, slice_get, slice_set)
   | inr ne ↦ each q w (sym (get_set_other xs r now q ne) ∙ e)
 ]
 
@@ -276,41 +213,14 @@ module _ {base : ℕ → ℕ} (x : Layout) (flat : x.passers ≡ 0) (frames : Li
     (log : Logged base x words (words 0) frames) (v : Receiving)
     (h : IsReceiver x frames (words 0) v) where
   pub found_flat : IsFoundIn frames (words 0) v (recv_found words v)
-  found_flat = (
-    λ e. elim (eqb_tells v.place v.known) [
-      | inl y ↦
-          ap (λ q. cond q (words v.length_at) (words (v.log_at + v.place % v.log_words))) y.0
-          ∙ ap words h.len_at
-      | inr y ↦ absurd (y.1 e)
-    ],
-    λ ne. elim (eqb_tells v.place v.known) [
-      | inl y ↦ absurd (ne y.1)
-      | inr y ↦
-          let low : v.place < words 0 =
-          let a = h.receives.place_below in let b = h.receives.known_below in omega arith in
-          let few : v.place < x.capacity = let a = log.fits flat in omega arith in
-          ap (λ q. cond q (words v.length_at) (words (v.log_at + v.place % v.log_words))) y.0
-          ∙ ap (λ q. words (q + v.place % v.log_words)) h.log
-          ∙ ap (λ q. words (log_at x + v.place % q)) h.log_words
-          ∙ ap (λ q. words (log_at x + q)) (mod-eq_of_lt few)
-          ∙ sym (index-read words (log_at x) (words 0) v.place low)
-          ∙ ap (λ q. slice_index q v.place) log.words_are
-    ],
-  )
+  found_flat = grind (arith, common_steps, eqb_tells, mod-eq_of_lt, index-read, slice_index)
 
   pub receiver_more : (answer : RecvTurn) (next : Receiving) → RecvDoes words v answer next
       → IsReceiver x frames (words 0) next
   receiver_more answer next does =
       let reads = reads_more x.senders frames (words 0) log.lawful (length-logged log) v h.senders
       h.receives words found_flat answer next does in
-      let same = words_stay words v next answer does in
-      record {
-        senders = reads.0;
-        log = same.0 ∙ h.log;
-        len_at = same.1 ∙ h.len_at;
-        log_words = same.2 ∙ h.log_words;
-        receives = reads.1;
-      }
+      grind (arith, common_steps, words_stay)
 
 -- receivers, where the log has grown
 module _ {base : ℕ → ℕ} (x : Layout) (frames : List Frame) (words words' : ℕ → ℕ)
@@ -328,16 +238,7 @@ module _ {base : ℕ → ℕ} (x : Layout) (frames : List Frame) (words words' :
   receiver_follows f log' v h =
       let size = length-logged log in
       let size' = length-logged log' in
-      let more =
-      ap length (log_words-append frames f) ∙ length-append (log_words frames) (frame_words f) in
-      record {
-        senders = h.senders;
-        log = h.log;
-        len_at = h.len_at;
-        log_words = h.log_words;
-        receives = Receives-append x.senders frames f (words 0) (words' 0) v.place v.known v.frames
-            size (omega arith) h.receives;
-      }
+      grind (arith, common_steps, length, log_words-append, length-append, Receives-append)
 
 -- a turn publishes at most one frame
 one_or_none : (more : Option Frame) (frames : List Frame)
@@ -352,10 +253,7 @@ lawful_of : {base : ℕ → ℕ} {E : Type 0} {P : Protocol E (Unit {0}) ℕ} {x
     → IsReceiver x frames (slice_index b.side.words 0) v)
     → ((r : ℕ) (v : Receiving) → slice_get b.receivers r ≡ Some v → NeverPasses v)
     → LawfulBus base P x b frames
-lawful_of side receiving never = record {
-  words = side.words;
-  keeps = record { sending = side.sending; receiving = receiving; never = never };
-}
+lawful_of side receiving never = assumption
 
 -- the frames of one bus begin those of the other
 pub record Continues (frames frames' : List Frame) : Type 0 where
@@ -550,21 +448,10 @@ module _ {E : Type 0} (X : Election E) (P : Protocol E (Unit {0}) ℕ)
         (waits : waiting_of (Some c') ≡ waiting_of (Some c) ++ more) where
       at_sender : put_by b' frames s ≡ put_by b frames s ++ more
       at_sender =
-          let front = map (λ (i : Item). i.message) (of_sender s (order_of frames)) in
-          ap (λ z. front ++ waiting_of (slice_get z s)) now
-          ∙ ap (λ z. front ++ waiting_of z)
-          (get_set_same b.side.senders s c' (slice_get_within b.side.senders s c old))
-          ∙ ap (λ z. front ++ z) waits
-          ∙ sym (append_assoc front (waiting_of (Some c)) more)
-          ∙ ap (λ z. (front ++ waiting_of z) ++ more) (sym old)
+          grind (arith, map, waiting_of, slice_get, get_set_same, slice_get_within, append_assoc)
 
       at_other : (q : ℕ) → q ≢ s → put_by b' frames q ≡ put_by b frames q
-      at_other q ne =
-          ap (λ z.
-          map (λ (i : Item). i.message) (of_sender q (order_of frames))
-          ++ waiting_of (slice_get z q)) now
-          ∙ ap (λ z. map (λ (i : Item). i.message) (of_sender q (order_of frames)) ++ waiting_of z)
-          (get_set_other b.side.senders s c' q ne)
+      at_other q ne = grind (arith, common_steps, map, waiting_of, slice_get, get_set_other)
 
     put_waits : (c : Core E) (bytes : List ℕ)
         → Fits base (slice_index b.side.words) frames c c.phase
@@ -584,11 +471,7 @@ module _ {E : Type 0} (X : Election E) (P : Protocol E (Unit {0}) ℕ)
             && (nat_le (length bytes) 56 && nat_lt (length c.queue.messages) 16)) e).1 in
             let idle = not_busy c.queue.busy (and_parts (cond c.queue.busy false true)
             (nat_le (length bytes) 56 && nat_lt (length c.queue.messages) 16) tests).0 in
-            let rests = idle_rests base (slice_index b.side.words) frames c c.phase fits idle in
-            ap
-            (waiting_at
-            (record c { queue = record c.queue { messages = c.queue.messages ++ bytes ∷ [] } }))
-            rests ∙ ap (λ z. z ++ bytes ∷ []) (sym (ap (waiting_at c) rests))
+            grind (arith, common_steps, idle_rests, slice_index, waiting_at)
 
     mark_waits : (c : Core E) (m : Mark) → Fits base (slice_index b.side.words) frames c c.phase
         → waiting_of (Some (mark_in c m)) ≡ waiting_of (Some c) ++ []
@@ -605,9 +488,7 @@ module _ {E : Type 0} (X : Election E) (P : Protocol E (Unit {0}) ℕ)
             (cond c.queue.busy false true && is_empty c.queue.messages) e).1 in
             let idle = not_busy c.queue.busy
             (and_parts (cond c.queue.busy false true) (is_empty c.queue.messages) tests).0 in
-            let rests = idle_rests base (slice_index b.side.words) frames c c.phase fits idle in
-            ap (waiting_at (record c { queue = record c.queue { phase = Marking m } })) rests
-            ∙ sym (ap (waiting_at c) rests) ∙ sym (append-nil (waiting_of (Some c)))
+            grind (arith, common_steps, idle_rests, slice_index, waiting_at, append-nil, waiting_of)
 
     own_part : (s : ℕ) (c : Core E) → slice_get b.side.senders s ≡ Some c
         → Part base x (slice_index b.side.words) frames s c
@@ -616,13 +497,7 @@ module _ {E : Type 0} (X : Election E) (P : Protocol E (Unit {0}) ℕ)
     put_puts : (s : ℕ) (bytes : List ℕ) (o : Option (Core E)) → going b s ≡ o
         → SenderDoes b.side o (λ c. with_sender b.side s (put_in c bytes)) b'.side → (q : ℕ)
         → put_by b' frames q ≡ put_by b frames q ++ cond (q == s) (accepted_by o bytes) []
-    put_puts s bytes None i d q =
-        bus_same d frames q ∙ sym (append-nil (put_by b frames q))
-        ∙ ap (λ z. put_by b frames q ++ z) (sym (same_arms (q == s)))
-      where
-        same_arms : (t : Bool) → cond {A = List (List ℕ)} t [] [] ≡ []
-        same_arms true = refl
-        same_arms false = refl
+    put_puts s bytes None i d q = grind (arith, common_steps, bus_same, append-nil, put_by)
     put_puts s bytes (Some c) i d q = elim (eqb_tells q s) [
       | inl y ↦ subst (λ z.
           put_by b' frames z ≡ put_by b frames z ++ cond (q == s) (accepted_by (Some c) bytes) [])
@@ -704,13 +579,7 @@ module _ {E : Type 0} (X : Election E) (P : Protocol E (Unit {0}) ℕ)
           log = n.log_is;
           len_at = n.length_is;
           log_words = n.words_are;
-          receives = record {
-            place_below = (let a = n.known in let d = n.place in omega arith);
-            known_below = (let a = n.known in omega arith);
-            has_read = subst
-                (λ z. HasRead x.senders (take z (log_words [])) (take z (log_pieces [])) v.frames)
-                (sym n.place) n.read;
-          };
+          receives = grind (arith, common_steps, take);
         }) (λ r v e. let n = new.receivers r v e in record {
           never = n.passed_is;
           unpassed = n.unpassed;
