@@ -68,6 +68,8 @@ pub record ForksRefuse (C : Type 0) (x : TableLayout) (e : ReceiverView) : Type 
       (Tap x (receiver_tried e (passed_word x (e.me + 1)) found), [])
   -- one that found the next number free, and tried the one behind it all the same
   pub goes_on : (n : Sat C) (found : ℕ)
-      → ¬ HasForked {C = C} (Tap x e, []) n
-      (Tap x (receiver_tried (receiver_tried e (passed_word x (e.me + 1)) PASSED_ALL)
-      (passed_word x (e.me + 2)) found), [])
+      → ¬ HasForked {C = C} (Tap x e, []) n (
+        Tap x (receiver_tried (receiver_tried e (passed_word x (e.me + 1)) PASSED_ALL)
+            (passed_word x (e.me + 2)) found),
+        [],
+      )
