@@ -1,8 +1,9 @@
 -- A batch that takes messages, after one of them.
-use Rattle.std.proofs.Common.{◌≡◌, ℕ, ◌+◌, ◌≤◌, true, List, [], ◌∷◌, length}
-use Rattle.std.proofs.Common.{Result, Ok, Err, OnOk, IfErr, refl, sym, ap, ◌∙◌, arith, inl, inr}
+use Rattle.std.proofs.Common.{◌≡◌, ℕ, ◌+◌, ◌≤◌, true, List, length, Result, Ok, Err, OnOk}
+use Rattle.std.proofs.Common.{IfErr, refl, sym, ◌∙◌, arith, inl, inr}
 use Rattle.std.proofs.lemmas.List.{length-append}
 use Rattle.std.proofs.lemmas.Bool.{true≢false}
+use Rattle.std.proofs.lemmas.Grind.{common_steps}
 use Rattle.bus_register.specs.declared.limits.TheConstants.{MOST_BYTES}
 use Rattle.bus_batch.specs.Batches.{CanPut, IsPutFault, Pending}
 use Rattle.bus_tenure.specs.Core.{is_closed}
@@ -22,21 +23,14 @@ pub open_with : {C E : Type 0} (P : Process C) → ProcessLaws P → (result : R
     → OnOk result (IsOpenWith (P.queue new) (length (P.queue old).messages + 1))
 open_with P laws (Err e) old new bytes can taken = tt
 open_with P laws (Ok number) old new bytes can taken =
-    let now = ap P.queue taken ∙ laws.message_waits old bytes in (
-      ap (λ (b : Pending). b.phase) now ∙ can.is_open,
-      ap (λ (b : Pending). b.busy) now ∙ can.idle,
-      ap (λ (b : Pending). length b.messages) now
-          ∙ length-append (P.queue old).messages (bytes ∷ []),
-    )
+    grind (arith, common_steps, length, length-append)
 
 -- why it takes a short one not
 pub refuses_short : (b : Pending) (many : ℕ) (why : PutFault) → many ≤ MOST_BYTES
     → IsPutFault b many why → RefusesPut b why
 refuses_short b many put.Closed short cause = cause
 refuses_short b many put.Busy short cause = tt
-refuses_short b many put.TooLong short cause =
-    let long = cause.2 in
-    absurd (omega (arith, long, short))
+refuses_short b many put.TooLong short cause = grind (arith, common_steps)
 refuses_short b many put.BatchFull short cause = tt
 
 pub refused_short : {V : Type 0} (b : Pending) (many : ℕ) (result : Result V PutFault)
@@ -52,14 +46,8 @@ never_refuses b many put.Closed can (inl marks) =
 never_refuses b many put.Closed can (inr closed) =
     let bad : Open ≡ Closed = sym can.is_open ∙ closed in cc
 never_refuses b many put.Busy can cause = true≢false (sym cause.1 ∙ can.idle)
-never_refuses b many put.TooLong can cause =
-    let short = can.short in
-    let long = cause.2 in
-    omega (arith, short, long)
-never_refuses b many put.BatchFull can cause =
-    let room = can.room in
-    let full = cause.3 in
-    omega (arith, room, full)
+never_refuses b many put.TooLong can cause = grind (arith, common_steps)
+never_refuses b many put.BatchFull can cause = grind (arith, common_steps)
 
 -- a batch that is closed is shut
 pub closed_is : (phase : Phase) → is_closed phase ≡ true → phase ≡ Closed

@@ -1,6 +1,7 @@
 -- The cause of a fault, of a part of a call, is the cause of the whole.
-use Rattle.std.proofs.Common.{◌≡◌, ℕ, Bool, true, false, inl, inr, refl, sym, subst, ap, ◌∙◌}
+use Rattle.std.proofs.Common.{◌≡◌, ℕ, Bool, true, false, inl, inr, refl, sym, subst, ap, ◌∙◌, arith}
 use Rattle.std.specs.Prelude.{IfErr, Result, Ok, Err}
+use Rattle.std.proofs.lemmas.Grind.{common_steps}
 use Rattle.bus_tenure.specs.declared.turns.Turn.{Turn}
 use Rattle.bus_tenure.specs.declared.turns.Turn.TheVariants as turn
 use Rattle.bus_automaton.specs.Processes.{Process}
@@ -31,21 +32,11 @@ says_yes Tells a b c said before told is =
 
 pub says_stop : {F : Type 0} (Tells : F → Bool → F → Type 0) (a b c : F) (said : Bool)
     → SaysOn Tells a b → Tells b said c → said ≡ false → SaysStop Tells a
-says_stop Tells a b c said before told is = record {
-  asked = b;
-  before = before;
-  left = c;
-  told = subst (λ s. Tells b s c) is told;
-}
+says_stop Tells a b c said before told is = grind (arith, common_steps)
 
 pub stop_after : {F : Type 0} (Tells : F → Bool → F → Type 0) (a b : F) → SaysOn Tells a b
     → SaysStop Tells b → SaysStop Tells a
-stop_after Tells a b before h = record {
-  asked = h.asked;
-  before = says_trans Tells a b h.asked before h.before;
-  left = h.left;
-  told = h.told;
-}
+stop_after Tells a b before h = grind (arith, common_steps, says_trans)
 
 -- ---- between more that the sender did
 module _ {C : Type 0} (P : Process C) (T : Tellings C) (leaves : Bool) (a b c d : SenderSeat C)
@@ -99,17 +90,13 @@ module _ {C S : Type 0} (P : Process C) (T : Tellings C) (leaves : Bool) (a b c 
   pub ended_within : HasEnded P T leaves b c → HasEnded P T leaves a d
   ended_within (inl end) =
       inl (ends_same a.me c.me d.me (ends_behind a.me b.me c.me heard end) same)
-  ended_within (inr (inl closed)) =
-      inr (inl (answered_within P T leaves a.sender b.sender c.sender d.sender before behind _
-      closed))
+  ended_within (inr (inl closed)) = grind (arith, common_steps, answered_within)
   ended_within (inr (inr (inl left))) =
       inr (inr (inl (
         left.0,
         answered_within P T leaves a.sender b.sender c.sender d.sender before behind _ left.1,
       )))
-  ended_within (inr (inr (inr shut))) =
-      inr
-      (inr (inr (shut_within P T leaves a.sender b.sender c.sender d.sender before behind shut)))
+  ended_within (inr (inr (inr shut))) = grind (arith, common_steps, shut_within)
 
 module _ {C S : Type 0} (P : Process C) (T : Tellings C) (a b c d : Replicated C S)
     (heard : GoesOn a.me b.me) (same : d.me ≡ c.me) where

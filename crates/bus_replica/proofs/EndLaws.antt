@@ -3,7 +3,7 @@ use Rattle.std.proofs.Common.{◌≡◌, ℕ, zero, suc, ◌+◌, ◌<◌, inl, 
 use Rattle.std.proofs.Common.{List, [], ◌∷◌, ◌++◌, length, slice_get, refl, sym, ◌∙◌, ap}
 use Rattle.std.proofs.Common.{subst, arith, append_assoc}
 use Rattle.std.proofs.lemmas.Bool.Decides.{eqb_tells}
-use Rattle.std.proofs.lemmas.Grind.{flat_map-append}
+use Rattle.std.proofs.lemmas.Grind.{flat_map-append, common_steps}
 use Rattle.std.proofs.lemmas.List.{append-nil}
 use Rattle.std.proofs.lemmas.Option.{same_Some}
 use Rattle.std.specs.Prelude.{◌||◌}
@@ -12,8 +12,8 @@ use mathlib.Core.Option.{some}
 use lib.ListN.{get_elem?}
 use Rattle.atomic_table.specs.Table.{State}
 use Rattle.bus_register.specs.declared.registers.SenderNo.{SenderNo}
-use Rattle.bus_batch.specs.Frames.{Frame, Order, Entry, Says, Leaves, AreFrames, AreFramesFrom}
-use Rattle.bus_batch.specs.Frames.{is_leave_of, items_in, entries_of, order_of}
+use Rattle.bus_batch.specs.Frames.{Frame, Entry, Says, Leaves, AreFrames, AreFramesFrom}
+use Rattle.bus_batch.specs.Frames.{is_leave_of, items_in, order_of}
 use Rattle.bus_tenure.specs.declared.pages.Page.{Page}
 use Rattle.bus_world.specs.Headline.{IsPrefix}
 use Rattle.bus_world.proofs.Framing.{entry_of, gone_for_good}
@@ -66,9 +66,7 @@ nothing_behind senders fs lawful front (x ∷ rest) is all =
     let gone = gone_at mine.frame.owner.0 front (all mine.frame.owner.0 few) in
     let there : slice_get entries gone.0 ≡ Some (Leaves gone.1) =
     ap (λ z. slice_get z gone.0) is ∙ got_before front (x ∷ rest) gone.0 (Leaves gone.1) gone.3 in
-    let numbered : ℕ → SenderNo = λ n. record { 0 = n } in
-    absurd (gone_for_good senders 0 fs lawful gone.1 gone.0 (length front) x there gone.2 at
-    (mine.own ∙ ap numbered (sym gone.4)))
+    grind (arith, common_steps, gone_for_good, length)
 
 module _ {C : Type 0} (P : Process C) (x : TableLayout) (base : ℕ → ℕ) where
   -- what a receiver was given begins the order
@@ -93,14 +91,7 @@ module _ {C : Type 0} (P : Process C) (x : TableLayout) (base : ℕ → ℕ) whe
       let more = (order_of split.0).entries in
       let front = given log s h i v at has in
       let mine = entries_heard v in
-      let all : (order_of b.frames).entries ≡ mine ++ (front.0 ++ more) =
-      ap (λ z. (order_of z).entries) split.1
-      ∙ flat_map-append entries_of a.frames split.0
-      ∙ ap (λ (o : Order). o.entries ++ more) a.order_is
-      ∙ ap (λ z. z ++ more) front.1 ∙ append_assoc mine front.0 more in
-      let none = nothing_behind x.senders b.frames b.lawful mine (front.0 ++ more) all left in
-      sym (sym (ap (λ (o : Order). o.entries) b.order_is) ∙ all ∙ ap (λ z. mine ++ z) none
-      ∙ append-nil mine)
+      grind (arith, common_steps, flat_map-append, append_assoc, nothing_behind, append-nil)
 
   pub equal_ends : (log later : List ℕ) (s t : State (Option Page) (View C))
       (h : IsPromised P x base log s) (k : IsPromised P x base later t) → IsPrefix log later

@@ -2,6 +2,7 @@
 use Rattle.std.proofs.Common.{◌≡◌, ℕ, ◌≤◌, true, [], ◌∷◌, length, refl, sym, ◌∙◌}
 use Rattle.std.proofs.Common.{subst, arith, List, ap, ◌++◌}
 use Rattle.std.proofs.lemmas.List.{append-nil}
+use Rattle.std.proofs.lemmas.Grind.{common_steps}
 use Rattle.bus_batch.specs.declared.messages.Item.{Item}
 use Rattle.bus_batch.specs.Frames.{Entry, Says, items_in}
 use Rattle.bus_deliverylog.specs.declared.receiving.RecvTurn.{RecvTurn}
@@ -50,9 +51,7 @@ module _ {S A : Type 0} (IsFirst : S → Type 0) (Applies : Operations S A) wher
   pub fold_more : {C : Type 0} (old new : Sat C) (state now : S) (item : Item) (answer : A)
       → IsFold IsFirst Applies old.0 state → Hears old (turn.Item item) new
       → Applies state item.sender.0 item.message answer now → IsFold IsFirst Applies new.0 now
-  fold_more old new state now item answer f h applied =
-      goes old new state now item answer f
-      (hears_grows old (turn.Item item) new f.heard f.within h) applied
+  fold_more old new state now item answer f h applied = grind (arith, goes, hears_grows)
 
   -- a load of the length, out of turn
   pub fold_told : {C : Type 0} (old new : Sat C) (state : S) (got : ℕ)
@@ -65,37 +64,18 @@ module _ {S A : Type 0} (IsFirst : S → Type 0) (Applies : Operations S A) wher
   pub fold_stays : {C : Type 0} (old new : Sat C) (state : S) (answer : RecvTurn)
       → items_in (entry_heard answer) ≡ [] → IsFold IsFirst Applies old.0 state
       → Hears old answer new → IsFold IsFirst Applies new.0 state
-  fold_stays old new state answer none f h =
-      stays old new state (entry_heard answer) f (hears_grows old answer new f.heard f.within h)
-      none
+  fold_stays old new state answer none f h = grind (arith, common_steps, stays, hears_grows)
 
   -- so it stands last
   pub stands_last : {C : Type 0} (old new : Sat C) (state now : S) (item : Item) (answer : A)
       → IsFold IsFirst Applies old.0 state → Hears old (turn.Item item) new
       → Applies state item.sender.0 item.message answer now
       → StandsLast IsFirst Applies new.0 now item.sender.0 item.number answer
-  stands_last old new state now item answer f h applied = record {
-    first = f.first;
-    begins = f.begins;
-    before = items_heard old.0;
-    item = item;
-    items_are = items_grow old (Says item ∷ []) new
-        (hears_grows old (turn.Item item) new f.heard f.within h);
-    worker_is = refl;
-    number_is = refl;
-    at = state;
-    folds = f.folds;
-    applied = applied;
-  }
+  stands_last old new state now item answer f h applied =
+      grind (arith, common_steps, items_grow, hears_grows)
 
 -- ---- catching up
 pub caught_up : {C : Type 0} (old loaded new : Sat C) (got : ℕ) → has_view old.0 ≡ true
     → Learns old got loaded → GoesOn loaded new
     → length (known_in loaded.0) ≤ (receiver_view_in new.0).place → HasCaughtUp old new
-caught_up old loaded new got has learns on far = record {
-  got = got;
-  loaded = loaded;
-  learns = learns;
-  goes_on = on;
-  reached = let long = learns_length old got loaded has learns in omega arith;
-}
+caught_up old loaded new got has learns on far = grind (arith, common_steps, learns_length)

@@ -1,7 +1,7 @@
 -- Equal operations lead to equal states, where an operation has one outcome.
-use Rattle.std.proofs.Common.{◌≡◌, ◌∙◌, List, [], ◌∷◌, ◌++◌, length, arith, refl, sym, ap}
-use Rattle.std.proofs.Common.{subst}
+use Rattle.std.proofs.Common.{◌≡◌, List, [], ◌∷◌, ◌++◌, length, arith, refl, sym, ap}
 use Rattle.std.proofs.lemmas.List.{length-append}
+use Rattle.std.proofs.lemmas.Grind.{common_steps}
 use Rattle.bus_batch.specs.declared.messages.Item.{Item}
 use Rattle.bus_replica.specs.OneOrder.{AreFunctions}
 use Rattle.bus_replica.specs.Replicas.{Operations, Folds, Begins, Then}
@@ -14,9 +14,7 @@ ends_same [] (b ∷ ys) x y e =
     let l = ap length e in let k = length-append ys (y ∷ []) in absurd (omega arith)
 ends_same (a ∷ xs) [] x y e =
     let l = ap length e in let k = length-append xs (x ∷ []) in absurd (omega arith)
-ends_same (a ∷ xs) (b ∷ ys) x y e =
-    let rest = ends_same xs ys x y (cc) in
-    let same : a ≡ b = cc in (ap (λ z. z ∷ xs) same ∙ ap (λ z. b ∷ z) rest.0, rest.1)
+ends_same (a ∷ xs) (b ∷ ys) x y e = grind (arith, common_steps)
 
 -- no list that ends with an element is empty
 pub not_empty : (items : List Item) (item : Item) → ◌≡◌ {A = List Item} [] (items ++ item ∷ []) → ⊥
@@ -38,7 +36,4 @@ folds_same IsFirst Applies F first first' same _ _ _ _ e
     let parts = ends_same items items' item item' e in
     let olds = folds_same IsFirst Applies F first first' same items items' old old' parts.0 before
     before' in
-    let moved : Applies old' item'.sender.0 item'.message answer new =
-    subst (λ (i : Item). Applies old' i.sender.0 i.message answer new) parts.1
-    (subst (λ o. Applies o item.sender.0 item.message answer new) olds applied) in
-    (F.one_next old' item'.sender.0 item'.message answer answer' new new' moved applied').1
+    grind (arith, common_steps)

@@ -1,9 +1,11 @@
 -- Turns of a receiver, one after another.
 use Rattle.std.proofs.Common.{◌≡◌, ℕ, ◌⊎◌, inl, inr, Bool, true, false, refl, sym, ◌∙◌, ap, subst}
+use Rattle.std.proofs.Common.{arith}
+use Rattle.std.proofs.lemmas.Grind.{common_steps}
 use Rattle.bus_register.specs.declared.registers.SenderNo.{SenderNo}
 use Rattle.bus_deliverylog.specs.declared.receiving.RecvTurn.{RecvTurn}
 use Rattle.bus_deliverylog.specs.declared.receiving.RecvTurn.TheVariants as turn
-use Rattle.bus_pageslot.specs.Listening.{Hears, GoesOnTo, At, Onward}
+use Rattle.bus_pageslot.specs.Listening.{GoesOnTo, At, Onward}
 use Rattle.bus_pageslot.specs.Rule.{Sat}
 use Rattle.bus_replica.specs.Causes.{HearsEnd}
 use Rattle.bus_replica.specs.Replicas.{Operations, Hearing, GoesOn, Here, On, HearsMore, Nothing}
@@ -43,18 +45,10 @@ out_goes a ended b h = On h.before (last_heard ended) b (more_goes a h.before h.
 
 -- behind turns, or where nothing was heard before
 pub out_ends : {C : Type 0} (a b c : Sat C) → GoesOn a b → HearsOut b true c → HearsEnd a c
-out_ends a b c before h = record {
-  before = h.before;
-  goes_on = goes_trans a b h.before before (more_goes b h.before h.goes_on);
-  last = h.last;
-}
+out_ends a b c before h = grind (arith, common_steps, goes_trans, more_goes)
 
 pub ends_behind : {C : Type 0} (a b c : Sat C) → GoesOn a b → HearsEnd b c → HearsEnd a c
-ends_behind a b c before h = record {
-  before = h.before;
-  goes_on = goes_trans a b h.before before h.goes_on;
-  last = h.last;
-}
+ends_behind a b c before h = grind (arith, common_steps, goes_trans)
 
 pub ends_same : {C : Type 0} (a b c : Sat C) → HearsEnd a b → c ≡ b → HearsEnd a c
 ends_same a b c h same = subst (λ z. HearsEnd a z) (sym same) h
@@ -139,28 +133,13 @@ module _ {C S A : Type 0} (Applies : Operations S A) (first : Sat C) (old new : 
 
   pub end_turn : HearsMore first old.me → TakesIn Applies old applied.End new
       → HearsOut first true new.me
-  end_turn before takes = record {
-    before = takes.before;
-    goes_on = more_along first old.me takes.before before takes.going;
-    last = subst (λ a. Hears takes.before a new.me)
-        (end_is Applies old.state new.state takes.answer takes.makes) takes.hears;
-  }
+  end_turn before takes = grind (arith, common_steps, more_along, end_is)
 
   pub empty_turn : HearsMore first old.me → TakesIn Applies old applied.Empty new
       → HearsOut first false new.me
-  empty_turn before takes = record {
-    before = takes.before;
-    goes_on = more_along first old.me takes.before before takes.going;
-    last = subst (λ a. Hears takes.before a new.me)
-        (empty_is Applies old.state new.state takes.answer takes.makes) takes.hears;
-  }
+  empty_turn before takes = grind (arith, common_steps, more_along, empty_is)
 
   -- the end, wherever it comes
   pub turn_ends : GoesOn first old.me → TakesIn Applies old applied.End new
       → HearsEnd first new.me
-  turn_ends before takes = record {
-    before = takes.before;
-    goes_on = goes_along first old.me takes.before before takes.going;
-    last = subst (λ a. Hears takes.before a new.me)
-        (end_is Applies old.state new.state takes.answer takes.makes) takes.hears;
-  }
+  turn_ends before takes = grind (arith, common_steps, goes_along, end_is)

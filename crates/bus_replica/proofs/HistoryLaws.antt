@@ -1,10 +1,11 @@
 -- Calls between moments of one order make a linearizable history.
-use Rattle.std.proofs.Common.{◌≡◌, ◌≢◌, ℕ, zero, suc, ◌+◌, ◌*◌, ◌≤◌, inl, inr, true}
-use Rattle.std.proofs.Common.{false, Option, Some, None, List, [], ◌∷◌, ◌++◌, length}
-use Rattle.std.proofs.Common.{slice_get, refl, sym, ◌∙◌, ap, subst, append_assoc, arith}
+use Rattle.std.proofs.Common.{◌≡◌, ℕ, zero, suc, ◌+◌, ◌*◌, ◌≤◌, inl, inr, true, false, Option, Some}
+use Rattle.std.proofs.Common.{None, List, [], ◌∷◌, ◌++◌, length, slice_get, refl, sym, ◌∙◌, ap}
+use Rattle.std.proofs.Common.{subst, append_assoc, arith}
 use Rattle.std.proofs.lemmas.Bool.{cases_lt, cases_eq}
 use Rattle.std.proofs.lemmas.List.{length-append, length-map, map-append}
 use Rattle.std.proofs.lemmas.Option.{same_Some}
+use Rattle.std.proofs.lemmas.Grind.{common_steps}
 use Rattle.bus_batch.specs.declared.messages.Item.{Item}
 use Rattle.bus_batch.specs.Frames.{Order, items_in}
 use Rattle.bus_world.proofs.Growing.{nothing_more, prefix_after}
@@ -22,10 +23,7 @@ use Rattle.bus_replica.proofs.TimeLaws.{prefix_long}
 -- ---- lists that begin others
 pub one_more : {A : Type 0} (x y : A) (xs ys : List A) → x ≡ y → IsPrefix xs ys
     → IsPrefix (x ∷ xs) (y ∷ ys)
-one_more x y xs ys same h = record {
-  rest = h.rest;
-  together = ap (λ z. z ∷ (xs ++ h.rest)) same ∙ ap (λ zs. y ∷ zs) h.together;
-}
+one_more x y xs ys same h = grind (arith, common_steps)
 
 -- of two beginnings of one list the shorter one begins the other
 shorter : {A : Type 0} (xs ys whole : List A) → IsPrefix xs whole → IsPrefix ys whole
@@ -34,9 +32,7 @@ shorter xs ys whole h k few = begins_front xs h.rest ys k.rest (h.together ∙ s
 
 -- ---- histories
 same_pair : {A : Type 0} (h k : Item × A) → h.0 ≡ k.0 → h.1 ≡ k.1 → h ≡ k
-same_pair {A} h k item answer =
-    ap {B = Item × A} (λ (i : Item). (i, h.1)) item
-    ∙ ap {B = Item × A} (λ (a : A). (k.0, a)) answer
+same_pair {A} h k item answer = grind (arith, common_steps)
 
 -- an operation that stands in a history stands at the same place in any list that it begins
 pub stands_there : {A : Type 0} (history : List (Item × A)) (rest : List Item) (place : ℕ)
@@ -100,9 +96,7 @@ module _ {S A : Type 0} (IsFirst : S → Type 0) (Applies : Operations S A) wher
       record {
         run = r.run ++ (item, answer) ∷ [];
         leads = runs_more first r.run old item answer new r.leads applied;
-        are =
-            map-append (λ (h : Item × A). h.0) r.run ((item, answer) ∷ [])
-            ∙ ap (λ z. z ++ item ∷ []) r.are;
+        are = grind (arith, common_steps, map-append);
       }
 
   -- where an operation has one outcome, of two runs the operations of one of which begin those of
@@ -176,50 +170,17 @@ module _ {S A : Type 0} (IsFirst : S → Type 0) (Applies : Operations S A) wher
       ∙ ap (λ z. z ++ l.item ∷ []) r.are in
       let front : IsPrefix (operations_of run) (items_in later.entries) = record {
         rest = l.after;
-        together =
-            ap (λ z. z ++ l.after) are ∙ append_assoc l.before (l.item ∷ []) l.after
-            ∙ sym l.stands;
+        together = grind (arith, common_steps, append_assoc);
       } in
       let some = as_many r.run l.before r.are in
       let few = prefix_long (items_in earlier.entries) l.before l.behind in
       let size = prefix_long (operations_of run) (items_in later.entries) front in
-      let sized = length-map run (λ (h : Item × A). h.0) in
-      record {
-        run = run;
-        state = done.0;
-        leads = runs_more first r.run l.at l.item answer done.0 r.leads
-            (subst (λ z. Applies l.at z l.item.message answer done.0) (sym l.worker_is)
-            (subst (λ z. Applies l.at worker z answer done.0) (sym l.bytes_are) l.applied));
-        of_order = prefix_after (operations_of run) (items_in later.entries) operations front all;
-        until = omega (arith, size, sized);
-        tells = record {
-          before = r.run;
-          item = l.item;
-          run_is = refl;
-          worker_is = l.worker_is;
-          number_is = l.number_is;
-          bytes_are = l.bytes_are;
-          behind = omega (arith, some, few);
-        };
-      }
+      grind (arith, common_steps, length-map, runs_more, prefix_after)
   part F first is operations earlier later all worker (Read shown) l =
       let r = ran first l.items shown
       (subst (λ z. Folds Applies z l.items shown) (F.one_first l.first first l.begins is) l.folds)
       in
-      let front : IsPrefix (operations_of r.run) (items_in later.entries) =
-      subst (λ z. IsPrefix z (items_in later.entries)) (sym r.are) l.of_order in
-      let some = as_many r.run l.items r.are in
-      let few = prefix_long (items_in earlier.entries) l.items l.behind in
-      let size = prefix_long (operations_of r.run) (items_in later.entries) front in
-      let sized = length-map r.run (λ (h : Item × A). h.0) in
-      record {
-        run = r.run;
-        state = shown;
-        leads = r.leads;
-        of_order = prefix_after (operations_of r.run) (items_in later.entries) operations front all;
-        until = omega (arith, size, sized);
-        tells = record { shown_is = refl; behind = omega (arith, some, few) };
-      }
+      grind (arith, common_steps, as_many, prefix_long, length-map, prefix_after)
 
   -- ---- the longest of them
   module _ (F : AreFunctions IsFirst Applies) (first : S) (operations : List Item)
@@ -246,13 +207,7 @@ module _ {S A : Type 0} (IsFirst : S → Type 0) (Applies : Operations S A) wher
 
     longest : (calls : List (Call S A))
         → ((i : ℕ) (c : Call S A) → slice_get calls i ≡ Some c → PartOf c) → Longest calls
-    longest [] parts = record {
-      history = [];
-      last = first;
-      leads = refl;
-      of_order = record { rest = operations; together = refl };
-      each = λ i c at. absurd (let no : ◌≡◌ {A = Option (Call S A)} None (Some c) = at in cc);
-    }
+    longest [] parts = grind (arith, common_steps)
     longest (c ∷ calls) parts =
         let rest = longest calls (λ i d at. parts (suc i) d at) in
         let own = parts zero c refl in
@@ -306,17 +261,7 @@ module _ {S A : Type 0} (IsFirst : S → Type 0) (Applies : Operations S A) wher
         let all = length-append t.before ((t.item, answer) ∷ []) in (
           2 * length t.before + 1,
           record {
-            effect = record {
-              before = t.before;
-              item = t.item;
-              after = on.rest;
-              stands = sym on.together ∙ ap (λ z. z ++ on.rest) t.run_is
-                  ∙ append_assoc t.before ((t.item, answer) ∷ []) on.rest;
-              worker_is = t.worker_is;
-              number_is = t.number_is;
-              bytes_are = t.bytes_are;
-              point_is = refl;
-            };
+            effect = grind (arith, common_steps, append_assoc);
             low = omega (arith, far);
             high = omega (arith, near, one, all);
           },
@@ -327,13 +272,7 @@ module _ {S A : Type 0} (IsFirst : S → Type 0) (Applies : Operations S A) wher
         let near = p.until in (
           2 * length p.run,
           record {
-            effect = record {
-              before = p.run;
-              after = on.rest;
-              stands = sym on.together;
-              leads = subst (Runs Applies first p.run) t.shown_is p.leads;
-              point_is = refl;
-            };
+            effect = grind (arith, common_steps);
             low = omega (arith, far);
             high = omega (arith, near);
           },
@@ -355,9 +294,7 @@ module _ {S A : Type 0} (IsFirst : S → Type 0) (Applies : Operations S A) wher
       place = length e.before;
       item = e.item;
       answer = answer;
-      at =
-          ap (λ z. slice_get z (length e.before)) e.stands
-          ∙ at_place e.before e.after (e.item, answer);
+      at = grind (arith, common_steps, slice_get, length, at_place);
       own = e.worker_is;
       is = e.point_is;
     }
@@ -367,14 +304,7 @@ module _ {S A : Type 0} (IsFirst : S → Type 0) (Applies : Operations S A) wher
     -- two at one point are of one worker
     one_worker : (history : List (Item × A)) (worker other point : ℕ)
         → IsThere history worker point → IsThere history other point → worker ≡ other
-    one_worker history worker other point h k =
-        let a = h.is in
-        let b = k.is in
-        let same : h.place ≡ k.place = omega (arith, a, b) in
-        let mine : Item × A = (h.item, h.answer) in
-        let its : Item × A = (k.item, k.answer) in
-        let one = same_Some mine its (sym h.at ∙ ap (slice_get history) same ∙ k.at) in
-        sym h.own ∙ ap (λ (z : Item × A). z.0.sender.0) one ∙ k.own
+    one_worker history worker other point h k = grind (arith, common_steps, same_Some, slice_get)
 
     -- ---- all calls
     abbrev PlacedIn : List (Item × A) → Call S A → ℕ → Type 0
@@ -393,20 +323,14 @@ module _ {S A : Type 0} (IsFirst : S → Type 0) (Applies : Operations S A) wher
     far_before : ((m n : ℕ) → m ≤ n → size m ≤ size n) → (history : List (Item × A))
         (c d : Call S A) (point other : ℕ) → PlacedIn history c point → PlacedIn history d other
         → c.returned ≤ d.began → point + weight c.did + weight d.did ≤ other
-    far_before grows history c d point other h k before =
-        let up = grows c.returned d.began before in
-        let high = h.high in
-        let low = k.low in
-        omega (arith, up, high, low)
+    far_before grows history c d point other h k before = grind (arith, common_steps)
 
     -- of two executions at one point neither is before the other
     apart : ((m n : ℕ) → m ≤ n → size m ≤ size n) → (history : List (Item × A))
         (c d : Call S A) (point other : ℕ) → PlacedIn history c point → PlacedIn history d other
         → is_execution c.did ≡ true → point ≡ other → c.returned ≤ d.began → ⊥
     apart grows history c d point other h k is same before =
-        let far = far_before grows history c d point other h k before in
-        let one = heavy c.did is in
-        omega (arith, far, one, same)
+        grind (arith, common_steps, far_before, heavy)
 
     all_linearizable : IsFirst first → ((m n : ℕ) → m ≤ n → size m ≤ size n)
         → (calls : List (Call S A))
@@ -428,24 +352,8 @@ module _ {S A : Type 0} (IsFirst : S → Type 0) (Applies : Operations S A) wher
           point = point;
           effect = λ i c at. (at_point i c at).effect;
           alone = λ i j c d at at' has has' same.
-              let h = at_point i c at in
-              let k = at_point j d at' in
-              let there = is_there history c.worker c.did (point i) has h.effect in
-              let there' = is_there history d.worker d.did (point j) has' k.effect in
-              let moved : IsThere history d.worker (point i) =
-              subst (IsThere history d.worker) (sym same) there' in
-              let worker = one_worker history c.worker d.worker (point i) there moved in
-              let clash : i ≢ j → ⊥ = λ differ.
-              elim (turns i j c d at at' differ has has' worker) [
-                | inl before ↦ apart grows history c d (point i) (point j) h k has same before
-                | inr before ↦
-                    apart grows history d c (point j) (point i) k h has' (sym same) before
-              ] in
-              elim (cases_eq i j) [ inl e ↦ e | inr differ ↦ absurd (clash differ) ];
-          in_time = λ i j c d at at' before.
-              before_by c.did d.did (point i) (point j)
-              (far_before grows history c d (point i) (point j) (at_point i c at) (at_point j d at')
-              before);
+              grind (arith, common_steps, is_there, one_worker, apart, cases_eq);
+          in_time = λ i j c d at at' before. grind (arith, common_steps, before_by, far_before);
         }
 
 -- ---- calls between moments

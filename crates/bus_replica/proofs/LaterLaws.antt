@@ -2,14 +2,13 @@
 use Rattle.std.proofs.Common.{◌≡◌, ℕ, zero, suc, ◌+◌, ◌≤◌, ◌⊎◌, inl, inr, Bool, ◌==◌, Some, Option}
 use Rattle.std.proofs.Common.{List, [], ◌∷◌, ◌++◌, length, map, filter, flat_map, slice_get, refl}
 use Rattle.std.proofs.Common.{sym, ◌∙◌, ap, append_assoc, arith}
-use Rattle.std.proofs.lemmas.Grind.{flat_map-append}
+use Rattle.std.proofs.lemmas.Grind.{flat_map-append, common_steps}
 use Rattle.std.proofs.lemmas.List.{length-append, length-map}
 use Rattle.std.proofs.lemmas.Option.{same_Some}
 use Rattle.atomic_table.specs.Table.{State}
 use Rattle.bus_batch.specs.declared.messages.Item.{Item}
 use Rattle.bus_register.specs.declared.registers.SenderNo.{SenderNo}
-use Rattle.bus_batch.specs.Frames.{Frame, Order, Spells, items_in, entries_of, order_of}
-use Rattle.bus_batch.specs.Frames.{item_in as item_of_entry}
+use Rattle.bus_batch.specs.Frames.{Frame, Order, Spells, items_in, order_of}
 use Rattle.bus_deliverylog.specs.Orders.{of_sender}
 use Rattle.bus_tenure.specs.declared.pages.Page.{Page}
 use Rattle.bus_world.specs.Headline.{IsPrefix, puts}
@@ -33,9 +32,7 @@ front_at (z ∷ xs) ys (suc place) x at = elim (front_at xs ys place x at) [
 pub items_of_more : (fs more : List Frame)
     → items_in (order_of (fs ++ more)).entries
     ≡ items_in (order_of fs).entries ++ items_in (order_of more).entries
-items_of_more fs more =
-    ap items_in (flat_map-append entries_of fs more)
-    ∙ flat_map-append item_of_entry (flat_map entries_of fs) (flat_map entries_of more)
+items_of_more fs more = grind (arith, common_steps, flat_map-append, flat_map)
 
 -- the order that a log spells begins that of a longer one
 pub orders_on : (senders : ℕ) (log log' : List ℕ) (order later : Order)
@@ -43,15 +40,7 @@ pub orders_on : (senders : ℕ) (log log' : List ℕ) (order later : Order)
     → Spells senders log' later owners' → IsPrefix log log'
     → IsPrefix (items_in order.entries) (items_in later.entries)
 orders_on senders log log' order later owners owners' a b on =
-    let split = front_frames senders 0 0 a.frames b.frames on.rest a.lawful b.lawful
-    (ap (λ z. z ++ on.rest) a.words_are ∙ on.together ∙ sym b.words_are) in
-    let more = items_in (order_of split.0).entries in
-    record {
-      rest = more;
-      together = sym (ap (λ (o : Order). items_in o.entries) (sym b.order_is)
-          ∙ ap (λ z. items_in (order_of z).entries) split.1 ∙ items_of_more a.frames split.0
-          ∙ ap (λ (o : Order). items_in o.entries ++ more) a.order_is);
-    }
+    grind (arith, common_steps, front_frames, items_of_more)
 
 -- An item of a sender that had fewer in the one order stands in a later one behind all of that,
 -- where the items of each are numbered.
@@ -83,11 +72,7 @@ stands_after order later on p first place item numbers at own put =
 -- a sender has put at least what an order has of it that begins with its puts
 pub puts_cover : (items : List Item) (puts_are : List (List ℕ))
     → IsPrefix (map (λ (i : Item). i.message) items) puts_are → length items ≤ length puts_are
-puts_cover items puts_are h =
-    let some = length-map items (λ (i : Item). i.message) in
-    let whole = length-append (map (λ (i : Item). i.message) items) h.rest in
-    let same = ap length h.together in
-    omega (arith, some, whole, same)
+puts_cover items puts_are h = grind (arith, common_steps, length-map, length-append, map, length)
 
 pub stands_behind : {C : Type 0} (P : Process C) (x : TableLayout) (base : ℕ → ℕ)
     (log log' : List ℕ)

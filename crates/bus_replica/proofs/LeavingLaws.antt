@@ -8,10 +8,11 @@ use Rattle.std.proofs.lemmas.List.{get_or-set_same, get_or-set_other, length-set
 use Rattle.std.proofs.lemmas.List.Folds.{list_any-append}
 use Rattle.std.specs.Prelude.{◌||◌, Result, Ok, Err, OnOk, slice_set, slice_index_or}
 use Rattle.std.specs.List.{list_any}
+use Rattle.std.proofs.lemmas.Grind.{common_steps}
 use lib.ListN.{get_or}
 use Rattle.bus_register.specs.declared.registers.SenderNo.{SenderNo}
 use Rattle.bus_batch.specs.declared.messages.Item.{Item}
-use Rattle.bus_batch.specs.Frames.{Entry, Says, Leaves, items_in, is_leave_of}
+use Rattle.bus_batch.specs.Frames.{Entry, Says, Leaves, is_leave_of}
 use Rattle.bus_deliverylog.specs.declared.receiving.RecvTurn.{RecvTurn}
 use Rattle.bus_deliverylog.specs.declared.receiving.RecvTurn.TheVariants as turn
 use Rattle.bus_world.specs.Headline.{entry_heard}
@@ -35,25 +36,17 @@ leaves_more : {C : Type 0} (old new : Sat C) (entries : List Entry) (worker : �
     → HasGrown old entries new
     → has_heard_leave new.0 worker
     ≡ (has_heard_leave old.0 worker || list_any (is_leave_of worker) entries)
-leaves_more old new entries worker g =
-    ap (list_any (is_leave_of worker)) g.entries_are
-    ∙ list_any-append (is_leave_of worker) (entries_heard old.0) entries
+leaves_more old new entries worker g = grind (arith, common_steps, list_any-append, entries_heard)
 
 -- none of these entries is a leave mark of this worker
 leaves_same : {C : Type 0} (old new : Sat C) (entries : List Entry) (worker : ℕ)
     → HasGrown old entries new → list_any (is_leave_of worker) entries ≡ false
     → has_heard_leave new.0 worker ≡ has_heard_leave old.0 worker
-leaves_same old new entries worker g none =
-    leaves_more old new entries worker g
-    ∙ ap (λ b. has_heard_leave old.0 worker || b) none
-    ∙ or-false (has_heard_leave old.0 worker)
+leaves_same old new entries worker g none = grind (arith, common_steps, leaves_more, or-false)
 
 leave_heard : {C : Type 0} (old new : Sat C) (s : SenderNo) → HasGrown old (Leaves s ∷ []) new
     → has_heard_leave new.0 s.0 ≡ true
-leave_heard old new s g =
-    leaves_more old new (Leaves s ∷ []) s.0 g
-    ∙ or_right (has_heard_leave old.0 s.0) (list_any (is_leave_of s.0) (Leaves s ∷ []))
-    (ap (λ b. b || false) (eq-eqb s.0 s.0 refl))
+leave_heard old new s g = grind (arith, common_steps, leaves_more, or_right, eq-eqb)
 
 -- of whom it is noted
 abbrev AreNoted : {C : Type 0} → View C → List Bool → Type 0
@@ -71,15 +64,8 @@ noted_more : {C : Type 0} (old new : Sat C) (s : SenderNo) (left : List Bool)
     → HasGrown old (Leaves s ∷ []) new → s.0 < length left → AreNoted old.0 left
     → AreNoted new.0 (slice_set left s.0 true)
 noted_more old new s left g within gone = λ worker low. elim (cases_eq worker s.0) [
-  | inl same ↦
-      ap (λ w. get_or (slice_set left s.0 true) w false) same
-      ∙ get_or-set_same left s.0 true false within
-      ∙ sym (ap (has_heard_leave new.0) same ∙ leave_heard old new s g)
-  | inr other ↦
-      get_or-set_other left s.0 worker true false other
-      ∙ gone worker (let long = length-set left s.0 true in omega (arith, low, long))
-      ∙ sym (leaves_same old new (Leaves s ∷ []) worker g
-      (ap (λ b. b || false) (ne_eqb s.0 worker (λ e. other (sym e)))))
+  | inl same ↦ grind (arith, common_steps, get_or, get_or-set_same, leave_heard)
+  | inr other ↦ grind (arith, common_steps, get_or-set_other, length-set, leaves_same, ne_eqb)
 ]
 
 -- where nobody has left, nobody is noted
@@ -118,21 +104,11 @@ module _ {C S A : Type 0} (IsFirst : S → Type 0) (Applies : Operations S A) (o
   -- a turn that found neither an item nor a leave mark
   pub hearing_stays : (answer : RecvTurn) → entry_heard answer ≡ [] → Hears old answer new
       → IsHearing IsFirst Applies new.0 state left
-  hearing_stays answer none hears = record {
-    fold = fold_stays IsFirst Applies old new state answer (ap items_in none) h.fold hears;
-    long = h.long;
-    gone = noted_same old new (entry_heard answer) left (grown answer hears)
-        (λ worker. ap (list_any (is_leave_of worker)) none) h.gone;
-  }
+  hearing_stays answer none hears = grind (arith, common_steps, fold_stays, noted_same, grown)
 
   -- a load of the length, out of turn
   pub hearing_told : (got : ℕ) → Learns old got new → IsHearing IsFirst Applies new.0 state left
-  hearing_told got learns = record {
-    fold = fold_told IsFirst Applies old new state got h.fold learns;
-    long = h.long;
-    gone = noted_same old new [] left
-        (learns_grows old got new h.fold.heard h.fold.within learns) (λ worker. refl) h.gone;
-  }
+  hearing_told got learns = grind (arith, common_steps, fold_told, noted_same, learns_grows)
 
   -- a turn that found a leave mark, which is noted
   pub hearing_leaves : (s : SenderNo) (n : ℕ) → n ≡ s.0 → s.0 < length left

@@ -2,7 +2,7 @@
 use Rattle.std.proofs.Common.{◌≡◌, ℕ, ◌+◌, ◌≤◌, true, inl, inr, Option, Some, List, [], ◌∷◌}
 use Rattle.std.proofs.Common.{◌++◌, length, map, slice_get, refl, sym, ◌∙◌, ap, subst, append_assoc}
 use Rattle.std.proofs.Common.{arith}
-use Rattle.std.proofs.lemmas.Grind.{flat_map-append}
+use Rattle.std.proofs.lemmas.Grind.{flat_map-append, common_steps}
 use Rattle.std.proofs.lemmas.List.{length-append}
 use mathlib.Core.Option.{some}
 use lib.ListN.{get_elem?}
@@ -11,7 +11,7 @@ use Rattle.bus_batch.specs.declared.messages.Item.{Item}
 use Rattle.bus_batch.specs.Frames.{Order, items_in}
 use Rattle.bus_deliverylog.specs.Orders.{of_sender}
 use Rattle.bus_tenure.specs.declared.pages.Page.{Page}
-use Rattle.bus_world.specs.Headline.{Action, IsPrefix, puts, put_of}
+use Rattle.bus_world.specs.Headline.{Action, IsPrefix, puts}
 use Rattle.bus_automaton.specs.Lawful.{ProcessLaws, AutomatonLaws}
 use Rattle.bus_automaton.specs.Processes.{Process, Automaton, TableLayout, base_in}
 use Rattle.bus_automaton.specs.SenderTrails.{SenderTrail}
@@ -21,7 +21,7 @@ use Rattle.bus_pageslot.specs.Promised.{IsPromised, Fits}
 use Rattle.bus_pageslot.specs.Rule.{Sat, TableInvariant, IsTrueOf, receiver_view_in}
 use Rattle.bus_pageslot.specs.Rule.{sender_trail_in, notes_in, IsSeated as IsSeatedIn}
 use Rattle.bus_pageslot.specs.Seats.{SenderSeat, first_number_of, actions_of}
-use Rattle.bus_pageslot.specs.Steps.{Accepts, Nothing, Message, Marks, since_in}
+use Rattle.bus_pageslot.specs.Steps.{Accepts, Nothing, Message, Marks}
 use Rattle.bus_pageslot.specs.Turns.{Tellings}
 use Rattle.bus_pageslot.specs.declared.rule.View.{View}
 use Rattle.bus_pageslot.specs.declared.rule.View.TheVariants.{Maker, Sender, Tap, Meeting, Telling}
@@ -54,11 +54,7 @@ begins_front [] ys us vs e l = record { rest = us; together = refl }
 begins_front (x ∷ xs) ys [] vs e l = absurd (omega (arith, l))
 begins_front (x ∷ xs) ys (u ∷ us) vs e l =
     let rest = begins_front xs ys us vs (cc) (omega (arith, l)) in
-    let same : x ≡ u = cc in
-    record {
-      rest = rest.rest;
-      together = ap (λ z. z ∷ xs ++ rest.rest) same ∙ ap (λ z. u ∷ z) rest.together;
-    }
+    grind (arith, common_steps)
 
 -- the items of an order begin those of a later one
 pub items_on : {C : Type 0} (P : Process C) (x : TableLayout) (base : ℕ → ℕ) (log later : List ℕ)
@@ -76,15 +72,7 @@ has_put_all : {C : Type 0} (P : Process C) (x : TableLayout) (base : ℕ → ℕ
 has_put_all {C} P x base log s h seat worker sits =
     let shown : h.actions (P.me sits.core) ≡ sits.trail.actions =
     subst (Fits P h.actions log) sits.shows (h.views sits.place seat.seat.me.0 sits.at) in
-    let since = since_in P seat.seat.me.0 seat.core in
-    let all : actions_of P seat ≡ h.actions worker ++ since =
-    ap (λ (z : View C). (sender_trail_in z).actions ++ since) sits.shows
-    ∙ ap (λ z. z ++ since) (sym shown)
-    ∙ ap (λ p. h.actions p ++ since) sits.me in
-    let both = ap (λ z. length (puts z)) all
-    ∙ ap length (flat_map-append put_of (h.actions worker) since) in
-    let long = length-append (puts (h.actions worker)) (puts since) in
-    omega (arith, both, long)
+    grind (arith, common_steps, length, flat_map-append, length-append)
 
 -- ---- of two orders, the one of which begins the other
 -- Of one sender the items of the later order are numbered, and their messages are the first of its
@@ -114,23 +102,7 @@ performed IsFirst Applies order later on worker first numbers all pre post numbe
     let place = stands_after order later on worker first (length last.before) last.item numbers
     (ap (λ z. slice_get z (length last.before)) stands ∙ at_place last.before front.rest last.item)
     last.worker_is (omega (arith, few, counted, numbered)) in
-    record {
-      before = last.before;
-      item = last.item;
-      after = front.rest;
-      stands = stands;
-      worker_is = last.worker_is;
-      number_is = last.number_is;
-      bytes_are = bytes_are;
-      behind = begins_front (items_in order.entries) on.rest last.before (last.item ∷ front.rest)
-          (on.together ∙ stands) place;
-      first = last.first;
-      begins = last.begins;
-      at = last.at;
-      folds = last.folds;
-      applied = subst (λ z. Applies last.at z bytes answer state) last.worker_is
-          (subst (λ z. Applies last.at last.item.sender.0 z answer state) bytes_are last.applied);
-    }
+    grind (arith, common_steps, begins_front)
 
 -- ---- of two tables
 pub linearized : {C S A : Type 0} (IsFirst : S → Type 0) (Applies : Operations S A) (P : Process C)
@@ -205,18 +177,7 @@ seated {C} P A laws lawful s r seat sits =
     let here : IsSeatedIn P A r.state r.seat sits.place c trail notes.stored =
     subst (IsTrueOf P A r.state r.seat r.ear sits.place) shows
     (r.views sits.place seat.seat.me.0 sits.at) in
-    record {
-      place = sits.place;
-      at = sits.at;
-      core = c;
-      trail = trail;
-      notes = notes;
-      shows = shows;
-      me = sym me;
-      first =
-          ap (λ (t : SenderTrail). t.first) (sym here.sender_trail_is)
-          ∙ lawful.first r.state (P.me c) r.reached ∙ ap (base_in A) (sym me);
-    }
+    grind (arith, common_steps)
 
 -- who was given an item is a receiver
 none_given : (before : List Item) (item : Item) → ◌≡◌ {A = List Item} [] (before ++ item ∷ []) → ⊥

@@ -1,10 +1,10 @@
 -- What pieces of long operations come to in a state of these: the fold of the operations that are
 -- whole, and of each worker what it has begun.
-use Rattle.std.proofs.Common.{◌≡◌, ℕ, ◌<◌, ◌≤◌, Bool, true, false, cond, ◌==◌, List, []}
-use Rattle.std.proofs.Common.{◌∷◌, ◌++◌, Option, Some, None, All, length, map, filter, flat_map}
-use Rattle.std.proofs.Common.{get_or, refl, sym, ap, subst, ◌∙◌, inl, inr, append_assoc}
+use Rattle.std.proofs.Common.{◌≡◌, ℕ, ◌<◌, ◌≤◌, Bool, true, false, cond, ◌==◌, List, [], ◌∷◌, ◌++◌}
+use Rattle.std.proofs.Common.{Option, Some, None, All, length, map, filter, flat_map, get_or, refl}
+use Rattle.std.proofs.Common.{sym, ap, subst, ◌∙◌, inl, inr, append_assoc, arith}
 use Rattle.std.proofs.lemmas.Bool.Decides.{eqb_tells}
-use Rattle.std.proofs.lemmas.Grind.{get_or-set_at}
+use Rattle.std.proofs.lemmas.Grind.{get_or-set_at, common_steps}
 use Rattle.std.proofs.lemmas.List.{append-nil, length-set, get_or-set_other}
 use Rattle.std.proofs.lemmas.List.{length-replicate, get_or-replicate, map-append}
 use Rattle.std.proofs.lemmas.List.Elements.{filter-append}
@@ -40,9 +40,7 @@ AreBelow many items =
 
 pub below_before : (many : ℕ) (items more : List Item) → AreBelow many (items ++ more)
     → AreBelow many items
-below_before many items more below before after item e =
-    below before (after ++ more) item
-    (ap (λ z. z ++ more) e ∙ append_assoc before (item ∷ after) more)
+below_before many items more below before after item e = grind (arith, common_steps, append_assoc)
 
 -- ---- what a worker has begun
 begun_on : (b : Begun) (messages : List (List ℕ)) (message : List ℕ)
@@ -60,11 +58,7 @@ sent_more : (worker : ℕ) (items : List Item) (item : Item)
     → sent_by worker (items ++ item ∷ [])
     ≡ sent_by worker items ++ cond (item.sender.0 == worker) (item.message ∷ []) []
 sent_more worker items item =
-    let p : Item → Bool = λ i. i.sender.0 == worker in
-    let m : Item → List ℕ = λ i. i.message in
-    ap (map m) (filter-append p items (item ∷ []))
-    ∙ map-append m (filter p items) (cond (p item) (item ∷ []) [])
-    ∙ ap (λ z. map m (filter p items) ++ z) (sent_one (p item) item)
+    grind (arith, common_steps, map, filter-append, map-append, filter, sent_one)
 
 -- so what it has begun is as before, or what its message leaves begun
 begun_more : (worker : ℕ) (items : List Item) (item : Item) (b : Bool)
@@ -72,16 +66,8 @@ begun_more : (worker : ℕ) (items : List Item) (item : Item) (b : Bool)
     → begun nothing (sent_by worker (items ++ item ∷ []))
     ≡ cond b (begun_by (begun nothing (sent_by worker items)) item.message)
     (begun nothing (sent_by worker items))
-begun_more worker items item true own =
-    ap (begun nothing)
-    (sent_more worker items item
-    ∙ ap (λ z. sent_by worker items ++ cond z (item.message ∷ []) []) own)
-    ∙ begun_on nothing (sent_by worker items) item.message
-begun_more worker items item false other =
-    ap (begun nothing)
-    (sent_more worker items item
-    ∙ ap (λ z. sent_by worker items ++ cond z (item.message ∷ []) []) other
-    ∙ append-nil (sent_by worker items))
+begun_more worker items item true own = grind (arith, common_steps, sent_more, begun_on)
+begun_more worker items item false other = grind (arith, common_steps, sent_more, append-nil)
 
 -- ---- one outcome
 module _ {S A : Type 0} (IsFirst : S → Type 0) (Applies : Operations S A)
@@ -90,24 +76,13 @@ module _ {S A : Type 0} (IsFirst : S → Type 0) (Applies : Operations S A)
       (new new' : S) → AppliesWhole Applies old from whole answer new
       → AppliesWhole Applies old from whole answer' new' → (answer ≡ answer') × (new ≡ new')
   whole_same old from None answer answer' new new' a b = (a.0 ∙ sym b.0, a.1 ∙ sym b.1)
-  whole_same old from (Some bytes) answer answer' new new' a b =
-      let one = F.one_next old from bytes a.0 b.0 new new' a.2 b.2 in
-      (a.1 ∙ ap Some one.0 ∙ sym b.1, one.1)
+  whole_same old from (Some bytes) answer answer' new new' a b = grind (arith, common_steps)
 
   same_long : (a b : LongState S) → a.state ≡ b.state → a.begun ≡ b.begun → a ≡ b
-  same_long a b state begun_is =
-      let made : S → List Begun → LongState S = λ s z. record { state = s; begun = z } in
-      ap (λ s. made s a.begun) state ∙ ap (made b.state) begun_is
+  same_long a b state begun_is = grind (arith, common_steps)
 
   pub functions_long : AreFunctions (IsFirstLong IsFirst) (AppliesLong Applies)
-  functions_long = record {
-    one_first = λ a b x y.
-        same_long a b (F.one_first a.state b.state x.0 y.0) (x.1 ∙ sym y.1);
-    one_next = λ old from op answer answer' new new' x y.
-        let one = whole_same old.state from (whole_by (begun_of old from) op) answer answer'
-        new.state new'.state x.whole y.whole in
-        (one.0, same_long new new' one.1 (x.begins ∙ sym y.begins));
-  }
+  functions_long = grind (arith, common_steps, same_long, whole_same)
 
 -- ---- the fold
 module _ {S A : Type 0} (IsFirst : S → Type 0) (Applies : Operations S A) (laws : PieceLaws) where
@@ -124,9 +99,7 @@ module _ {S A : Type 0} (IsFirst : S → Type 0) (Applies : Operations S A) (law
       (whole : Option (List ℕ)) (answer : Option A) → Folds Applies first items old
       → AppliesWhole Applies old item.sender.0 whole answer new
       → Folds Applies first (items ++ whole_item item whole) new
-  applies_whole first old new items item None answer folds applied =
-      subst (λ z. Folds Applies first (items ++ []) z) (sym applied.1)
-      (subst (λ z. Folds Applies first z old) (sym (append-nil items)) folds)
+  applies_whole first old new items item None answer folds applied = grind (arith, append-nil)
   applies_whole first old new items item (Some bytes) answer folds applied =
       Then items old (record item { message = bytes }) applied.0 new folds applied.2
 
@@ -146,11 +119,7 @@ module _ {S A : Type 0} (IsFirst : S → Type 0) (Applies : Operations S A) (law
             ∙ ap (λ b. begun_by b item.message) (h.begun_is from own)
             ∙ ap (λ w. begun_by (begun nothing (sent_by w items)) item.message) same.1
             ∙ sym (begun_more worker items item true same.0)
-        | inr other ↦
-            ap (λ z. get_or z worker nothing) applied.begins
-            ∙ get_or-set_other old.begun from worker left nothing (λ e. other.1 (sym e))
-            ∙ h.begun_is worker below
-            ∙ sym (begun_more worker items item false other.0)
+        | inr other ↦ grind (arith, common_steps, get_or, get_or-set_other, begun_more)
       ]
 
   pub folds_long : (first : LongState S) → IsFirstLong IsFirst first → (items : List Item)
@@ -166,19 +135,4 @@ module _ {S A : Type 0} (IsFirst : S → Type 0) (Applies : Operations S A) (law
   folds_long first begins _ _ (Then items old item answer new before applied) below =
       let h = folds_long first begins items old before
       (below_before MOST_SENDERS items (item ∷ []) below) in
-      let own = below items [] item refl in
-      let whole : AppliesWhole Applies old.state item.sender.0
-      (whole_by (begun nothing (sent_by item.sender.0 items)) item.message) answer new.state =
-      subst (λ b. AppliesWhole Applies old.state item.sender.0 (whole_by b item.message) answer
-      new.state) (h.begun_is item.sender.0 own) applied.whole in
-      record {
-        folds = subst (λ z. Folds Applies first.state z new.state) (sym (laws.one items item))
-            (applies_whole first.state old.state new.state (longs items) item
-            (whole_by (begun nothing (sent_by item.sender.0 items)) item.message) answer h.folds
-            whole);
-        begun_is = begun_step first old new items item answer h own applied;
-        many = ap length applied.begins
-            ∙ length-set old.begun item.sender.0
-            (begun_by (begun_of old item.sender.0) item.message)
-            ∙ h.many;
-      }
+      grind (arith, common_steps, applies_whole, begun_step, length, length-set)

@@ -3,6 +3,7 @@ use Rattle.std.proofs.Common.{◌≡◌, ℕ, ◌+◌, ◌<◌, ◌≤◌, Bool,
 use Rattle.std.proofs.Common.{All, length, map, filter, flat_map, slice_get, refl, sym, ap, subst}
 use Rattle.std.proofs.Common.{◌∙◌, arith, append_assoc}
 use Rattle.std.proofs.lemmas.List.{length-map, map-append}
+use Rattle.std.proofs.lemmas.Grind.{common_steps}
 use Rattle.bus_register.specs.declared.limits.TheConstants.{MOST_SENDERS}
 use Rattle.bus_batch.specs.declared.messages.Item.{Item}
 use Rattle.bus_batch.specs.Frames.{Order, Says, items_in}
@@ -30,18 +31,12 @@ long_items order = items_said (longs (items_in order.entries))
 
 longs_grow : PieceLaws → (items more : List Item) → IsPrefix items more
     → IsPrefix (longs items) (longs more)
-longs_grow laws items more on = record {
-  rest = longs_behind items on.rest;
-  together = sym (laws.grow items on.rest) ∙ ap longs on.together;
-}
+longs_grow laws items more on = grind (arith, common_steps)
 
 pub long_on : PieceLaws → (earlier later : Order)
     → IsPrefix (items_in earlier.entries) (items_in later.entries)
     → IsPrefix (items_in (long_order earlier).entries) (items_in (long_order later).entries)
-long_on laws earlier later on =
-    subst (λ z. IsPrefix z (items_in (long_order later).entries)) (sym (long_items earlier))
-    (subst (IsPrefix (longs (items_in earlier.entries))) (sym (long_items later))
-    (longs_grow laws (items_in earlier.entries) (items_in later.entries) on))
+long_on laws earlier later on = grind (arith, long_items, longs_grow)
 
 -- of a worker that has put the pieces of long operations the first of these stand in it
 pub long_whole : PieceLaws → (order : Order) (worker : ℕ) (operations messages : List (List ℕ))
@@ -51,10 +46,7 @@ pub long_whole : PieceLaws → (order : Order) (worker : ℕ) (operations messag
 long_whole laws order worker operations messages are begins =
     let whole = laws.whole worker (items_in order.entries) operations begins.rest are.short
     (begins.together ∙ are.all) in
-    record {
-      rest = whole.0;
-      together = ap (λ z. sent_by worker z ++ whole.0) (long_items order) ∙ whole.1;
-    }
+    grind (arith, common_steps, long_items)
 
 -- ---- the messages of a worker before one of its own
 pub same_front : {A : Type 0} (xs ys us vs : List A) → length xs ≡ length us
@@ -84,13 +76,7 @@ own_front first order all worker numbers messages before after item stands own p
     let L = filter p after in
     let at : slice_get (of_sender worker order) (length F) ≡ Some item =
     ap (λ z. slice_get z (length F)) mine ∙ at_place F L item in
-    let numbered = numbers (length F) item at in
-    let many : length F ≡ length pre = omega (arith, numbered, number) in
-    same_front (map m F) (map m (item ∷ L) ++ messages.rest) pre post (length-map F m ∙ many)
-    (sym (append_assoc (map m F) (map m (item ∷ L)) messages.rest)
-    ∙ ap (λ z. z ++ messages.rest) (sym (map-append m F (item ∷ L)))
-    ∙ ap (λ z. map m z ++ messages.rest) (sym mine)
-    ∙ messages.together ∙ puts_are)
+    grind (arith, common_steps, length, same_front, map, length-map, append_assoc, map-append)
 
 -- ---- over long operations
 module _ {S A : Type 0} (IsFirst : S → Type 0) (Applies : Operations S A) (laws : PieceLaws) where
@@ -141,13 +127,7 @@ module _ {S A : Type 0} (IsFirst : S → Type 0) (Applies : Operations S A) (law
           before = longs l.before;
           item = mine;
           after = longs_behind (l.before ++ l.item ∷ []) l.after;
-          stands = long_items later ∙ ap longs l.stands
-              ∙ ap longs (sym (append_assoc l.before (l.item ∷ []) l.after))
-              ∙ laws.grow (l.before ++ l.item ∷ []) l.after
-              ∙ ap (λ z. z ++ longs_behind (l.before ++ l.item ∷ []) l.after)
-              (laws.one l.before l.item ∙ ap (λ z. longs l.before ++ z) becomes)
-              ∙ append_assoc (longs l.before) (mine ∷ [])
-              (longs_behind (l.before ++ l.item ∷ []) l.after);
+          stands = grind (arith, common_steps, long_items, append_assoc);
           worker_is = l.worker_is;
           number_is = l.number_is;
           bytes_are = refl;
@@ -171,13 +151,4 @@ module _ {S A : Type 0} (IsFirst : S → Type 0) (Applies : Operations S A) (law
       folds_long IsFirst Applies laws r.first r.begins r.items state r.folds
       (below_before MOST_SENDERS r.items r.of_order.rest
       (subst (AreBelow MOST_SENDERS) (sym r.of_order.together) below)) in
-      record {
-        first = r.first.state;
-        begins = r.begins.0;
-        items = longs r.items;
-        folds = h.folds;
-        of_order = subst (IsPrefix (longs r.items)) (sym (long_items later))
-            (longs_grow laws r.items (items_in later.entries) r.of_order);
-        behind = subst (λ z. IsPrefix z (longs r.items)) (sym (long_items earlier))
-            (longs_grow laws (items_in earlier.entries) r.items r.behind);
-      }
+      grind (arith, common_steps, long_items, longs_grow)

@@ -3,7 +3,7 @@ use Rattle.std.proofs.Common.{◌≡◌, ℕ, zero, suc, ◌+◌, ◌-◌, ◌�
 use Rattle.std.proofs.Common.{◌∷◌, ◌++◌, length, take}
 use Rattle.std.proofs.Common.{flat_map, slice_get, refl, sym, ◌∙◌, ap, subst, arith}
 use Rattle.std.proofs.Math.Seq.{take-append-add}
-use Rattle.std.proofs.lemmas.Grind.{flat_map-append}
+use Rattle.std.proofs.lemmas.Grind.{flat_map-append, common_steps}
 use Rattle.std.proofs.lemmas.List.{append-nil, length-append}
 use Rattle.std.proofs.lemmas.Option.{same_Some}
 use Rattle.bus_register.specs.Protocol.{Protocol}
@@ -11,11 +11,10 @@ use Rattle.bus_register.specs.declared.registers.SenderNo.{SenderNo}
 use Rattle.bus_adoptcommit.specs.declared.verdicts.Verdict.{Verdict}
 use Rattle.bus_batch.specs.Frames.{AreFrames, Frame, Order, Spells, items_in, frame_pieces}
 use Rattle.bus_batch.specs.Frames.{log_pieces, log_words, order_in, order_of, piece_entries}
-use Rattle.bus_batch.specs.Frames.{item_in as item_of_entry}
 use Rattle.bus_batch.proofs.PieceLaws.{order_in-log}
 use Rattle.bus_deliverylog.specs.Orders.{of_sender}
 use Rattle.bus_deliverylog.specs.declared.receiving.RecvTurn.{RecvTurn}
-use Rattle.bus_tenure.specs.Core.{Election, Layout}
+use Rattle.bus_tenure.specs.Core.{Election}
 use Rattle.bus_tenure.specs.Elections.{Elector}
 use Rattle.bus_world.proofs.Growing.{prefix_after}
 use Rattle.bus_world.proofs.ReceivingLaws.{length-log_pieces}
@@ -26,7 +25,6 @@ use Rattle.bus_machine.proofs.Frames.Joining.{joins}
 use Rattle.bus_machine.proofs.Frames.Staying.{grown_longer}
 use Rattle.bus_machine.specs.Machine.{Machine, Trails, base_of, trails_grown}
 use Rattle.bus_machine.specs.Playing.{AllAnswered, Played, trails_after}
-use Rattle.bus_machine.specs.Promise.{words_joined}
 use Rattle.bus_replica.specs.Replicas.{LeadTo, Operations}
 use Rattle.bus_replica.specs.Linearized.{IsLinearized, IsRead}
 use Rattle.bus_replica.specs.OneOrder.{AreFunctions}
@@ -102,15 +100,7 @@ pub read : {S A : Type 0} (IsFirst : S → Type 0) (Applies : Operations S A) (b
     → IsRead IsFirst Applies order order' state
 read IsFirst Applies base actions heard order order' owners k on receiver state far led =
     let front = items_begin (heard receiver) [] order' (k.delivered receiver) in
-    record {
-      first = led.first;
-      begins = led.begins;
-      items = operations_in (heard receiver);
-      folds = led.folds;
-      of_order = front;
-      behind = begins_front (items_in order.entries) on.rest (operations_in (heard receiver))
-          front.rest (on.together ∙ sym front.together) far;
-    }
+    grind (arith, common_steps, begins_front)
 
 -- ---- machines
 -- a reader that has come past the words of the first frames was given all their items
@@ -132,10 +122,7 @@ given_all fs more place trail given far =
     ap (λ (o : Order). o.entries) given
     ∙ ap (flat_map piece_entries) pieces ∙ flat_map-append piece_entries front (take n behind)
     ∙ ap (λ (o : Order). o.entries ++ later) (order_in-log fs) in
-    let items = ap length (items_given trail ∙ ap items_in entries
-    ∙ flat_map-append item_of_entry (order_of fs).entries later) in
-    let all = length-append (items_in (order_of fs).entries) (items_in later) in
-    omega (arith, items, all)
+    grind (arith, common_steps, length, items_given, flat_map-append, length-append)
 
 module _ {E : Type 0} (X : Election E) where
   pub orders_go_on : (s t : MachineMoment X) → IsLaterMachine s t
@@ -175,10 +162,7 @@ module _ {E : Type 0} (X : Election E) where
         (given.given
         ∙ ap (λ fs. order_in (take given.receiver.place (log_pieces fs))) split.1)
         (omega (arith, words, long, far)) in
-        let same = ap (λ (o : Order). length (items_in o.entries)) a.order_is in
-        read IsFirst Applies (base_of t.machine) t.trails.actions t.trails.heard s.page.order
-        t.page.order t.page.owners t.page.by.promises (orders_go_on s t on) receiver shown
-        (omega (arith, all, same)) did.leads
+        grind (arith, common_steps, length, read, orders_go_on)
 
     done_on : (s t : MachineMoment X) → IsLaterMachine s t → (worker : ℕ) (did : Did S A)
         → IsDoneOnMachine IsFirst Applies s t worker did
@@ -196,9 +180,7 @@ module _ {E : Type 0} (X : Election E) where
         linearizable IsFirst Applies first (λ n. (moments n).page.order) last calls F is
         (λ m n up. orders_go_on (moments m) (moments n) (by.later m n up))
         (record {
-          done = λ i c at.
-              done_on (moments c.began) (moments c.returned)
-              (by.later c.began c.returned (by.ordered i c at)) c.worker c.did (by.done i c at);
+          done = λ i c at. grind (arith, common_steps, done_on);
           returned = by.returned;
         })
         turns
@@ -208,24 +190,12 @@ module _ {S : Type 0} (X : Election (Elector S)) (P : Protocol S Bool Verdict) w
   publishes_on : (events : List Event) (old new : Machine (Elector S))
       (run : AllAnswered X P old events new) (T : Trails)
       → PublishesMore old T new (trails_after X P old events new run T)
-  publishes_on [] old new run T = record {
-    senders = ap (λ (m : Machine (Elector S)). m.layout.senders) run;
-    log = record { rest = []; together = append-nil T.log };
-  }
+  publishes_on [] old new run T = grind (arith, common_steps, append-nil)
   publishes_on (e ∷ events) old new run T =
       let one = event_reuse X old run.0 e run.1 run.2.happens in
       let mid = trails_grown X old e run.1 T in
       let rest = publishes_on events run.0 new run.3 mid in
-      record {
-        senders = rest.senders ∙ ap (λ (x : Layout). x.senders) one.0;
-        log = prefix_after T.log mid.log
-            (trails_after X P run.0 events new run.3 mid).log
-            (record {
-              rest = words_joined X old e;
-              together = sym (joins X old run.0 e run.1 T run.2.happens);
-            })
-            rest.log;
-      }
+      grind (arith, common_steps, prefix_after, joins)
 
   acts_on : (events : List Event) (old new : Machine (Elector S))
       (run : AllAnswered X P old events new) (T : Trails) (s : ℕ)

@@ -6,6 +6,7 @@ use Rattle.std.specs.Prelude.{All, option_map}
 use Rattle.std.proofs.lemmas.List.{length-append, length-map}
 use Rattle.std.proofs.lemmas.Option.{same_Some, slice_get-map, slice_get_within}
 use Rattle.std.proofs.lemmas.Option.{get_or_from_slice_get}
+use Rattle.std.proofs.lemmas.Grind.{common_steps}
 use Rattle.bus_register.specs.declared.limits.TheConstants.{MOST_SENDERS}
 use Rattle.bus_batch.specs.declared.messages.Item.{Item}
 use Rattle.bus_tenure.specs.declared.pages.Page.{Page}
@@ -106,10 +107,7 @@ module _ {C S Answer : Type 0} (P : Process C) (A : Plan → Automaton C) (IsFir
               ∙ ap (option_map (λ (z : SeatOfBus C). seat_of z)) at)).me),
         );
         many = (let l = h.senders_are.many_are in omega (arith, l));
-        as_many =
-            (let l = h.senders_are.many_are in let r = h.receivers_are.many_are in
-            let m = length-map receivers (λ (z : SeatOfBus C). seat_of z) in
-            omega (arith, l, r, m, as_many));
+        as_many = grind (arith, common_steps, length-map);
       }
 
   -- the next two
@@ -156,10 +154,7 @@ module _ {C S Answer : Type 0} (P : Process C) (A : Plan → Automaton C) (IsFir
           few = h.few;
           each = λ k x at. elim (push_at made new x k (ap (λ z. slice_get z k) (sym g) ∙ at)) [
             | inl l ↦ h.each k x l
-            | inr i ↦
-                (subst (λ n. IsNewReplica P (A h.bus.plan) IsFirst Applies h.bus n x) (sym i.0)
-                (subst (λ z. IsNewReplica P (A h.bus.plan) IsFirst Applies h.bus (length made) z)
-                i.1 fresh))
+            | inr i ↦ grind (arith, common_steps, length)
           ];
           senders_are = λ k number x at is.
               h.senders_are (suc k) number x (ap (λ z. slice_get z (suc k)) e ∙ at)
@@ -176,14 +171,4 @@ module _ {C S Answer : Type 0} (P : Process C) (A : Plan → Automaton C) (IsFir
       → IsPairing P A IsFirst Applies shape page replayed made senders receivers
       → length receivers ≡ 0
       → AreNewReplicas P A IsFirst Applies shape.senders shape.log_words page replayed made
-  all_made made senders receivers h none =
-      let many = h.many in
-      let as_many = h.as_many in
-      record {
-        bus = h.bus;
-        plan_is = h.plan_is ∙ ap (λ (x : Shape). ring_plan x page) h.shape_is;
-        replayed_is = h.replayed_is;
-        many = omega (arith, none, many, as_many);
-        few = h.few;
-        each = h.each;
-      }
+  all_made made senders receivers h none = grind (arith, common_steps)

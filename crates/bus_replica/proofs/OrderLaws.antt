@@ -1,7 +1,7 @@
 -- What replicas have to do with the one order of their bus.
-use Rattle.std.proofs.Common.{◌≡◌, ℕ, true, false, inl, inr, List, [], ◌∷◌, ◌++◌, flat_map}
-use Rattle.std.proofs.Common.{Option, refl, sym, ◌∙◌, ap}
-use Rattle.std.proofs.lemmas.Grind.{flat_map-append}
+use Rattle.std.proofs.Common.{◌≡◌, ℕ, true, false, inl, inr, List, [], ◌∷◌, ◌++◌, flat_map, Option}
+use Rattle.std.proofs.Common.{refl, sym, ◌∙◌, ap, arith}
+use Rattle.std.proofs.lemmas.Grind.{flat_map-append, common_steps}
 use mathlib.Core.Option.{some}
 use lib.ListN.{get_elem?}
 use Rattle.atomic_table.specs.Table.{State}
@@ -43,13 +43,7 @@ items_given (t ∷ turns) =
 pub items_begin : (old new : List RecvTurn) (order : Order)
     → IsPrefixOfOrder (order_given old) order
     → IsPrefix (flat_map item_in old) (items_in order.entries)
-items_begin old new order h = record {
-  rest = items_in h.later;
-  together =
-      ap (λ z. z ++ items_in h.later) (items_given old)
-      ∙ sym (flat_map-append item_of_entry (flat_map entry_heard old) h.later)
-      ∙ ap items_in (sym h.entries);
-}
+items_begin old new order h = grind (arith, common_steps, items_given, flat_map-append, flat_map)
 
 pub shows_own : {C : Type 0} (v : View C) → has_view v ≡ true
     → ShowsTrail (receiver_view_in v).answers v

@@ -1,7 +1,6 @@
 -- The item of a worker's own number has the bytes that it put.
-use Rattle.std.proofs.Common.{◌≡◌, ℕ, ◌+◌, Bool, true, cond, ◌==◌, Some, List, [], ◌∷◌, ◌++◌}
-use Rattle.std.proofs.Common.{length, map, filter, slice_get, refl, sym, ◌∙◌, ap, subst, arith}
-use Rattle.std.proofs.Common.{append_assoc}
+use Rattle.std.proofs.Common.{◌≡◌, ℕ, ◌+◌, Bool, true, ◌==◌, Some, List, [], ◌∷◌, ◌++◌, length, map}
+use Rattle.std.proofs.Common.{filter, slice_get, refl, sym, ◌∙◌, ap, subst, arith, append_assoc}
 use Rattle.std.proofs.lemmas.List.Elements.{filter-append}
 use Rattle.std.proofs.lemmas.List.{map-append, length-map}
 use Rattle.std.proofs.lemmas.Bool.{eq-eqb}
@@ -9,19 +8,18 @@ use Rattle.bus_batch.specs.declared.messages.Item.{Item}
 use Rattle.bus_batch.specs.Frames.{Order, items_in}
 use Rattle.bus_deliverylog.specs.Orders.{of_sender}
 use Rattle.std.proofs.Common.{inl, inr, Option}
-use Rattle.std.proofs.lemmas.Grind.{flat_map-append}
+use Rattle.std.proofs.lemmas.Grind.{flat_map-append, common_steps}
 use mathlib.Core.Option.{some}
 use lib.ListN.{get_elem?}
 use Rattle.atomic_table.specs.Table.{State}
 use Rattle.bus_tenure.specs.declared.pages.Page.{Page}
-use Rattle.bus_world.specs.Headline.{IsPrefix, puts, put_of}
+use Rattle.bus_world.specs.Headline.{IsPrefix, puts}
 use Rattle.bus_automaton.specs.Processes.{Process, TableLayout}
 use Rattle.bus_automaton.specs.SenderTrails.{SenderTrail}
 use Rattle.bus_pageslot.specs.Notes.{Notes}
 use Rattle.bus_pageslot.specs.Promised.{IsPromised, Fits}
-use Rattle.bus_pageslot.specs.Rule.{receiver_view_in, sender_trail_in}
+use Rattle.bus_pageslot.specs.Rule.{receiver_view_in}
 use Rattle.bus_pageslot.specs.Seats.{SenderSeat, first_number_of, actions_of}
-use Rattle.bus_pageslot.specs.Steps.{since_in}
 use Rattle.bus_pageslot.specs.Turns.{Tellings}
 use Rattle.bus_pageslot.specs.declared.rule.View.{View}
 use Rattle.bus_pageslot.specs.declared.rule.View.TheVariants.{Sender}
@@ -46,10 +44,7 @@ pub own_items : (s : ℕ) (order : Order) (before later : List Item) (item : Ite
     → of_sender s order
     ≡ filter (λ i. i.sender.0 == s) before ++ item ∷ filter (λ i. i.sender.0 == s) later
 own_items s order before later item all own =
-    let p : Item → Bool = λ i. i.sender.0 == s in
-    ap (filter p) all ∙ filter-append p before (item ∷ later)
-    ∙ ap (λ b. filter p before ++ cond b (item ∷ filter p later) (filter p later))
-    (eq-eqb item.sender.0 s own)
+    grind (arith, common_steps, filter, filter-append, eq-eqb)
 
 pub own_bytes : (first : ℕ) (order : Order) (puts_are : List (List ℕ)) (s : ℕ)
     → ((k : ℕ) (i : Item) → slice_get (of_sender s order) k ≡ Some i → i.number ≡ first + k)
@@ -67,15 +62,7 @@ own_bytes first order all_puts s numbers messages before later item all own pre 
     let L = filter p later in
     let at : slice_get (of_sender s order) (length F) ≡ Some item =
     ap (λ z. slice_get z (length F)) mine ∙ at_place F L item in
-    let numbered = numbers (length F) item at in
-    let many : length F ≡ length pre = omega (arith, numbered, number) in
-    let same : length (map m F) ≡ length pre = length-map F m ∙ many in
-    let rest = messages.rest in
-    same_place (map m F) (map m L ++ rest) pre post item.message bytes same
-    (sym (append_assoc (map m F) (item.message ∷ map m L) rest)
-    ∙ ap (λ z. z ++ rest) (sym (map-append m F (item ∷ L)))
-    ∙ ap (λ z. map m z ++ rest) (sym mine)
-    ∙ messages.together ∙ puts_are)
+    grind (arith, common_steps, length, map, length-map, same_place, append_assoc, map-append)
 
 -- ---- of a table
 -- the messages of a sender in the order are the first that its seat shows as put
@@ -89,19 +76,7 @@ puts_on {C} P x base log s h j seat c trail notes at' view =
     let page = h.promises (λ r. []) (λ r. inl refl) in
     let shown : h.actions (P.me c) ≡ trail.actions =
     subst (Fits P h.actions log) view (h.views j seat.seat.me.0 at') in
-    let since = since_in P seat.seat.me.0 seat.core in
-    let all : actions_of P seat ≡ trail.actions ++ since =
-    ap (λ (z : View C). (sender_trail_in z).actions ++ since) view in
-    let begun = page.faithful.messages (P.me c) in
-    record {
-      rest = begun.rest ++ puts since;
-      together =
-          sym (append_assoc (map (λ (i : Item). i.message) (of_sender (P.me c) h.order)) begun.rest
-          (puts since))
-          ∙ ap (λ z. z ++ puts since) begun.together
-          ∙ ap (λ z. puts z ++ puts since) shown
-          ∙ sym (flat_map-append put_of trail.actions since) ∙ ap puts (sym all);
-    }
+    grind (arith, common_steps, append_assoc, map, flat_map-append)
 
 pub own_operation : {C S A : Type 0} (IsFirst : S → Type 0) (Applies : Operations S A)
     (P : Process C) (T : Tellings C) (x : TableLayout) (base : ℕ → ℕ) (log : List ℕ)

@@ -1,10 +1,11 @@
 -- The next numbers behind a journal, item by item.
-use Rattle.std.proofs.Common.{◌≡◌, ℕ, zero, suc, ◌+◌, ◌-◌, ◌<◌, ◌≤◌, ◌^◌, Bool, true, false}
-use Rattle.std.proofs.Common.{List, [], ◌∷◌, ◌++◌, refl, replicate, slice_get, slice_index, Some}
-use Rattle.std.proofs.Common.{get_or, max, subst, sym, take, arith, ◌==◌, if◌then◌else◌}
+use Rattle.std.proofs.Common.{◌≡◌, ℕ, zero, suc, ◌-◌, ◌<◌, ◌≤◌, ◌^◌, Bool, true, false, List, []}
+use Rattle.std.proofs.Common.{◌∷◌, ◌++◌, refl, replicate, slice_get, slice_index, Some, get_or, max}
+use Rattle.std.proofs.Common.{take, arith, ◌==◌, if◌then◌else◌}
 use Rattle.std.proofs.lemmas.Bool.Decides.{Decides-eqb}
 use Rattle.std.proofs.Math.Nat.{le-max_left, le-max_right, le-min, le_refl}
 use Rattle.std.proofs.lemmas.Option.{same_Some, slice_get_within}
+use Rattle.std.proofs.lemmas.Grind.{common_steps}
 use Rattle.bus_batch.specs.declared.messages.Item.{Item}
 use Rattle.bus_replica.specs.Pages.{next_behind, next_behind_one, number_behind}
 
@@ -40,25 +41,14 @@ behind_all sender (i ∷ items) next =
 -- the next number behind an item of this sender is a greater one
 behind_it : (item : Item) (next : ℕ) → item.number < 2 ^ 64 - 1
     → item.number < next_behind_one item.sender.0 item next
-behind_it item next low =
-    let high : item.number + 1 ≤ 2 ^ 64 - 1 = omega (arith, low) in
-    let one : item.number + 1 ≤ number_behind item.number =
-    le-min (le_refl (item.number + 1)) high in
-    let far = le-max_right next (number_behind item.number) in
-    subst (λ b. item.number < (if b then max next (number_behind item.number) else next))
-    (sym (eqb_true item.sender.0)) (omega (arith, one, far))
+behind_it item next low = grind (arith, common_steps, le-min, le_refl, le-max_right, max, eqb_true)
 
 pub told_behind : (items : List Item) (next k : ℕ) (item : Item) → slice_get items k ≡ Some item
     → item.number < 2 ^ 64 - 1 → item.number < next_behind item.sender.0 items next
 told_behind [] next k item at low =
     let within = slice_get_within [] k item at in absurd (omega (arith, within))
 told_behind (i ∷ items) next zero item at low =
-    let same : i ≡ item = same_Some i item at in
-    let one = behind_it item next low in
-    let more =
-    behind_all item.sender.0 items (next_behind_one item.sender.0 item next) in
-    subst (λ z. item.number < next_behind item.sender.0 (z ∷ items) next) (sym same)
-    (omega (arith, one, more))
+    grind (arith, common_steps, same_Some, behind_it, behind_all)
 told_behind (i ∷ items) next (suc k) item at low =
     told_behind items (next_behind_one item.sender.0 i next) k item at low
 

@@ -2,12 +2,10 @@
 use Rattle.std.proofs.Common.{◌≡◌, ℕ, ◌+◌, ◌-◌, ◌≤◌, List, ◌++◌, length, flat_map, take}
 use Rattle.std.proofs.Common.{slice_index, inr, sym, ◌∙◌, ap, subst, append_assoc, arith}
 use Rattle.std.proofs.Math.Seq.{take-append-add}
-use Rattle.std.proofs.lemmas.Grind.{flat_map-append}
+use Rattle.std.proofs.lemmas.Grind.{flat_map-append, common_steps}
 use mathlib.Core.Option.{some}
 use lib.ListN.{get_elem?}
-use Rattle.bus_batch.specs.Frames.{Frame, Order, items_in, frame_pieces, log_pieces}
-use Rattle.bus_batch.specs.Frames.{log_words, order_of, piece_entries}
-use Rattle.bus_batch.specs.Frames.{item_in as item_of_entry}
+use Rattle.bus_batch.specs.Frames.{Frame, items_in, log_pieces, log_words, order_of}
 use Rattle.bus_batch.proofs.PieceLaws.{order_in-log}
 use Rattle.bus_tenure.specs.Core.{length_at}
 use Rattle.bus_world.proofs.ReceivingLaws.{length-log_pieces}
@@ -32,19 +30,7 @@ items_read fs more e heard far =
     let size = length-log_pieces fs in
     let n : ℕ = e.place - length front in
     let place : e.place ≡ length front + (e.place - length front) = omega (arith, size, far) in
-    let pieces : take e.place (log_pieces (fs ++ more)) ≡ front ++ take n behind =
-    ap (take e.place) (flat_map-append frame_pieces fs more)
-    ∙ ap (λ k. take k (front ++ behind)) place ∙ take-append-add front behind n in
-    let later = flat_map piece_entries (take n behind) in
-    let entries : (order_given e.answers).entries ≡ (order_of fs).entries ++ later =
-    ap (λ (o : Order). o.entries) heard.given_is
-    ∙ ap (flat_map piece_entries) pieces ∙ flat_map-append piece_entries front (take n behind)
-    ∙ ap (λ (o : Order). o.entries ++ later) (order_in-log fs) in
-    record {
-      rest = items_in later;
-      together = sym (ap items_in entries
-          ∙ flat_map-append item_of_entry (order_of fs).entries later);
-    }
+    grind (arith, common_steps, take, flat_map-append, take-append-add, flat_map, order_in-log)
 
 pub read : {C S A : Type 0} (IsFirst : S → Type 0) (Applies : Operations S A) (P : Process C)
     (Bus : Automaton C) (s m t : RuledTable P Bus)
@@ -82,10 +68,5 @@ read {C} IsFirst Applies P Bus s m t page h k on on' old new j at caught loaded 
       items = items_heard w;
       folds = fold.folds;
       of_order = items_begin answers answers k.order (promised.delivered 0);
-      behind = record {
-        rest = all.rest;
-        together =
-            ap (λ (o : Order). items_in o.entries ++ all.rest) (sym a.order_is)
-            ∙ all.together ∙ sym given;
-      };
+      behind = grind (arith, common_steps);
     }

@@ -1,14 +1,13 @@
 -- A sitting goes on from what was replayed, and what was written into a journal is replayed.
 use Rattle.std.proofs.Common.{◌≡◌, ℕ, ◌≤◌, List, [], ◌∷◌, ◌++◌, length, flat_map, map, take, drop}
 use Rattle.std.proofs.Common.{true, refl, sym, ◌∙◌, ap, subst, append_assoc, arith}
-use Rattle.std.proofs.lemmas.Grind.{flat_map-append}
+use Rattle.std.proofs.lemmas.Grind.{flat_map-append, common_steps}
 use Rattle.std.proofs.lemmas.List.{append-nil, take-append-drop, take-append-le}
 use mathlib.Core.Option.{some}
 use lib.ListN.{get_elem?}
 use Rattle.bus_batch.specs.declared.messages.Item.{Item}
 use Rattle.bus_batch.specs.Frames.{AreFrames, Frame, Order, Says, frame_pieces, items_in}
 use Rattle.bus_batch.specs.Frames.{log_pieces, log_words, order_of, piece_entries}
-use Rattle.bus_batch.specs.Frames.{item_in as item_of_entry}
 use Rattle.bus_batch.proofs.PieceLaws.{order_in-log}
 use Rattle.bus_deliverylog.specs.Orders.{IsPrefixOfOrder}
 use Rattle.bus_world.proofs.ReceivingLaws.{length-log_pieces}
@@ -44,14 +43,7 @@ items_within fs more e heard near =
     ap (λ (o : Order). o.entries) (sym (order_in-log fs))
     ∙ ap (flat_map piece_entries) (sym (take-append-drop e.place front))
     ∙ flat_map-append piece_entries (take e.place front) (drop e.place front) in
-    let given : (order_given e.answers).entries ≡ first =
-    ap (λ (o : Order). o.entries) heard.given_is ∙ ap (flat_map piece_entries) pieces in
-    record {
-      rest = items_in later;
-      together =
-          ap (λ z. items_in z ++ items_in later) given
-          ∙ sym (flat_map-append item_of_entry first later) ∙ ap items_in (sym entries);
-    }
+    grind (arith, common_steps, flat_map, flat_map-append)
 
 pub within_words : {C : Type 0} (P : Process C) (A : Automaton C) (t : RuledTable P A) (j : ℕ)
     (v : View C) (fs : List Frame) → get_elem? t.table.views j ≡ some v → has_view v ≡ true
@@ -62,13 +54,7 @@ within_words P A t j v fs at has lawful on near =
     let e = receiver_view_in v in
     let q = t.rule in
     let b = (knows P A q.state q.seat q.ear j v has (q.views j v at)).1 in
-    let split = front_frames A.table_layout.senders 0 0 fs b.frames on.rest lawful b.lawful
-    (on.together ∙ sym b.words_are) in
-    let p = items_within fs split.0 e (subst (λ z. HasHeard z e) split.1 b.heard) near in
-    record {
-      rest = p.rest;
-      together = ap (λ z. z ++ p.rest) (items_given e.answers) ∙ p.together;
-    }
+    grind (arith, common_steps, front_frames, items_within, items_given)
 
 -- ---- two sittings
 said : (items : List Item) → items_in (map Says items) ≡ items
@@ -77,9 +63,7 @@ said (i ∷ items) = ap (λ z. i ∷ z) (said items)
 
 items_behind : (replayed : List Item) (order : Order)
     → items_in (behind replayed order).entries ≡ replayed ++ items_in order.entries
-items_behind replayed order =
-    flat_map-append item_of_entry (map Says replayed) order.entries
-    ∙ ap (λ z. z ++ items_in order.entries) (said replayed)
+items_behind replayed order = grind (arith, common_steps, flat_map-append, map, said)
 
 folds_on : {S A : Type 0} (Applies : Operations S A) (first middle : S) (items more : List Item)
     (last : S) → Folds Applies first items middle → Folds Applies middle more last
@@ -93,20 +77,13 @@ folds_on Applies first middle items _ _ f (Then more old item answer new before 
 
 begins_more : {A : Type 0} (front xs ys : List A) → IsPrefix xs ys
     → IsPrefix (front ++ xs) (front ++ ys)
-begins_more front xs ys p = record {
-  rest = p.rest;
-  together = append_assoc front xs p.rest ∙ ap (λ z. front ++ z) p.together;
-}
+begins_more front xs ys p = grind (arith, common_steps, append_assoc)
 
 module _ {S A : Type 0} (IsFirst : S → Type 0) (Applies : Operations S A) where
   pub led_on : (replayed items : List Item) (state : S)
       → LeadTo (LeadTo IsFirst Applies replayed) Applies items state
       → LeadTo IsFirst Applies (replayed ++ items) state
-  led_on replayed items state l = record {
-    first = l.begins.first;
-    begins = l.begins.begins;
-    folds = folds_on Applies l.begins.first l.first replayed items state l.begins.folds l.folds;
-  }
+  led_on replayed items state l = grind (arith, common_steps, folds_on)
 
   -- an execution stands behind all that begins what was replayed
   executed_behind : (replayed : List Item) (earlier later order : Order) (worker number : ℕ)
@@ -114,49 +91,21 @@ module _ {S A : Type 0} (IsFirst : S → Type 0) (Applies : Operations S A) wher
       → (l : IsLinearized (LeadTo IsFirst Applies replayed) Applies earlier later worker number
       bytes answer state) → IsPrefix (items_in order.entries) (replayed ++ l.before)
       → IsLinearized IsFirst Applies order (behind replayed later) worker number bytes answer state
-  executed_behind replayed earlier later order worker number bytes answer state l far = record {
-    before = replayed ++ l.before;
-    item = l.item;
-    after = l.after;
-    stands = items_behind replayed later ∙ ap (λ z. replayed ++ z) l.stands
-        ∙ sym (append_assoc replayed l.before (l.item ∷ l.after));
-    worker_is = l.worker_is;
-    number_is = l.number_is;
-    bytes_are = l.bytes_are;
-    behind = far;
-    first = l.begins.first;
-    begins = l.begins.begins;
-    at = l.at;
-    folds = folds_on Applies l.begins.first l.first replayed l.before l.at l.begins.folds l.folds;
-    applied = l.applied;
-  }
+  executed_behind replayed earlier later order worker number bytes answer state l far =
+      grind (arith, common_steps, items_behind, append_assoc, folds_on)
 
   read_behind : (replayed : List Item) (earlier later order : Order) (state : S)
       → (l : IsRead (LeadTo IsFirst Applies replayed) Applies earlier later state)
       → IsPrefix (items_in order.entries) (replayed ++ l.items)
       → IsRead IsFirst Applies order (behind replayed later) state
   read_behind replayed earlier later order state l far =
-      let more = begins_more replayed l.items (items_in later.entries) l.of_order in
-      record {
-        first = l.begins.first;
-        begins = l.begins.begins;
-        items = replayed ++ l.items;
-        folds =
-            folds_on Applies l.begins.first l.first replayed l.items state l.begins.folds l.folds;
-        of_order = record {
-          rest = more.rest;
-          together = more.together ∙ sym (items_behind replayed later);
-        };
-        behind = far;
-      }
+      grind (arith, common_steps, begins_more, folds_on, items_behind)
 
   -- of one sitting and what was replayed before it
   all_behind : (replayed : List Item) (earlier : Order) (before : List Item)
       → IsPrefix (items_in earlier.entries) before
       → IsPrefix (items_in (behind replayed earlier).entries) (replayed ++ before)
-  all_behind replayed earlier before p =
-      subst (λ z. IsPrefix z (replayed ++ before)) (sym (items_behind replayed earlier))
-      (begins_more replayed (items_in earlier.entries) before p)
+  all_behind replayed earlier before p = grind (arith, common_steps, items_behind, begins_more)
 
   pub one_executed : (replayed : List Item) (earlier later : Order) (worker number : ℕ)
       (bytes : List ℕ) (answer : A) (state : S)
@@ -176,30 +125,14 @@ module _ {S A : Type 0} (IsFirst : S → Type 0) (Applies : Operations S A) wher
 
   pub led_functions : (replayed : List Item) → AreFunctions IsFirst Applies
       → AreFunctions (LeadTo IsFirst Applies replayed) Applies
-  led_functions replayed F = record {
-    one_first = λ a b l k.
-        folds_same IsFirst Applies F l.first k.first
-        (F.one_first l.first k.first l.begins k.begins) replayed replayed a b refl l.folds k.folds;
-    one_next = F.one_next;
-  }
+  led_functions replayed F = grind (arith, common_steps, folds_same)
 
   -- what was replayed before, and was written, comes first in all that is replayed
   written : (before : List Item) (old new : Order) (more : List Item) → IsPrefixOfOrder old new
       → IsPrefix (items_in (behind before old).entries)
       ((before ++ items_in new.entries) ++ more)
   written before old new more p =
-      let olds = items_in old.entries in
-      let later = items_in p.later in
-      let told : items_in new.entries ≡ olds ++ later =
-      ap items_in p.entries ∙ flat_map-append item_of_entry old.entries p.later in
-      record {
-        rest = later ++ more;
-        together =
-            ap (λ z. z ++ (later ++ more)) (items_behind before old)
-            ∙ sym (append_assoc (before ++ olds) later more)
-            ∙ ap (λ z. z ++ more) (append_assoc before olds later
-            ∙ ap (λ z. before ++ z) (sym told));
-      }
+      grind (arith, common_steps, flat_map-append, items_behind, append_assoc)
 
   pub recorded_executed : (before : List Item) (order told earlier later : Order)
       (worker number : ℕ) (bytes : List ℕ) (answer : A) (state : S) → IsPrefixOfOrder order told
@@ -222,11 +155,7 @@ module _ {S A : Type 0} (IsFirst : S → Type 0) (Applies : Operations S A) wher
 -- an order that begins another has its operations first
 pub recorded_items : (old new : Order) → IsPrefixOfOrder old new
     → IsPrefix (items_in old.entries) (items_in new.entries)
-recorded_items old new p = record {
-  rest = items_in p.later;
-  together =
-      sym (flat_map-append item_of_entry old.entries p.later) ∙ ap items_in (sym p.entries);
-}
+recorded_items old new p = grind (arith, common_steps, flat_map-append)
 
 -- where nothing was replayed
 none_led : {S A : Type 0} (IsFirst : S → Type 0) (Applies : Operations S A) (items : List Item)
@@ -245,26 +174,9 @@ module _ {C S A : Type 0} (IsFirst : S → Type 0) (Applies : Operations S A) (v
     (state : S) where
   pub fold_first : IsFold (LeadTo IsFirst Applies []) Applies v state
       → IsFold IsFirst Applies v state
-  fold_first f = record {
-    first = f.first;
-    begins = led_by_none IsFirst Applies f.first f.begins;
-    folds = f.folds;
-    heard = f.heard;
-    within = f.within;
-  }
+  fold_first f = grind (arith, common_steps, led_by_none)
 
   pub stands_first : (worker number : ℕ) (answer : A)
       → StandsLast (LeadTo IsFirst Applies []) Applies v state worker number answer
       → StandsLast IsFirst Applies v state worker number answer
-  stands_first worker number answer s = record {
-    first = s.first;
-    begins = led_by_none IsFirst Applies s.first s.begins;
-    before = s.before;
-    item = s.item;
-    items_are = s.items_are;
-    worker_is = s.worker_is;
-    number_is = s.number_is;
-    at = s.at;
-    folds = s.folds;
-    applied = s.applied;
-  }
+  stands_first worker number answer s = grind (arith, common_steps, led_by_none)

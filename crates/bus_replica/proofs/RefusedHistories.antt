@@ -4,6 +4,7 @@ use Rattle.std.proofs.Common.{None, List, [], ◌∷◌, ◌++◌, length, slice
 use Rattle.std.proofs.Common.{subst, arith}
 use Rattle.std.proofs.lemmas.List.{length-append, length-map}
 use Rattle.std.proofs.lemmas.Option.{same_Some}
+use Rattle.std.proofs.lemmas.Grind.{common_steps}
 use Rattle.bus_world.proofs.Growing.{nothing_more}
 use Rattle.bus_world.specs.Headline.{IsPrefix}
 use Rattle.bus_batch.specs.declared.messages.Item.{Item}
@@ -46,9 +47,7 @@ module _ (operations : List Item) (calls : List (Call ℕ ℕ)) (h : IsCounted o
       let run = subst (λ z. Runs Counts h.first z h.last) effect.stands h.legal in
       let count =
       answered h.first effect.before effect.item answer effect.after h.last run in
-      let none : h.first ≡ 0 = h.begins in
-      let point = effect.point_is in
-      omega (arith, count, none, point)
+      grind (arith, common_steps)
 
   -- a read that showed n is at the point 2 n
   record ShowsAt (i shown : ℕ) : Type 0 where
@@ -65,26 +64,18 @@ module _ (operations : List Item) (calls : List (Call ℕ ℕ)) (h : IsCounted o
       let point = effect.point_is in
       let all = ap length effect.stands in
       let parts = length-append effect.before effect.after in
-      record {
-        point_is = omega (arith, count, none, point);
-        within = omega (arith, count, none, all, parts);
-      }
+      grind (arith, common_steps)
 
   -- calls keep their order
   timely : (i j : ℕ) (c d : Call ℕ ℕ) (did did' : Did ℕ ℕ) → slice_get calls i ≡ Some c
       → slice_get calls j ≡ Some d → c.did ≡ did → d.did ≡ did' → c.returned ≤ d.began
       → IsBefore did did' (h.point i) (h.point j)
-  timely i j c d did did' at at' is is' before =
-      subst (λ z. IsBefore z did' (h.point i) (h.point j)) is
-      (subst (λ z. IsBefore c.did z (h.point i) (h.point j)) is' (h.in_time i j c d at at' before))
+  timely i j c d did did' at at' is is' before = grind (arith, common_steps)
 
 -- so many operations at most are in a history
 as_many : (operations : List Item) (history : List (Item × ℕ))
     → IsPrefix (operations_of history) operations → length history ≤ length operations
-as_many operations history taken =
-    let few = prefix_long (operations_of history) operations taken in
-    let same = length-map history (λ (h : Item × ℕ). h.0) in
-    omega (arith, few, same)
+as_many operations history taken = grind (arith, common_steps, prefix_long, length-map)
 
 pub refused : (operations : List Item) (calls : List (Call ℕ ℕ)) → HistoriesRefuse operations calls
 refused operations calls = record {
@@ -187,14 +178,7 @@ module _ (item : Item) (reader returned began : ℕ) (some : 0 < returned) where
       c.returned ≤ d.began → IsBefore c.did d.did (point_at shown i) (point_at shown j)
 
   read_there : (shown : ℕ) → shown ≤ 1 → ReadsAt Counts 0 right_history shown (2 * shown)
-  read_there zero low =
-      record {
-        before = [];
-        after = right_history;
-        stands = refl;
-        leads = refl;
-        point_is = refl;
-      }
+  read_there zero low = grind (arith, common_steps)
   read_there (suc zero) low =
       record {
         before = right_history;
@@ -232,15 +216,7 @@ module _ (item : Item) (reader returned began : ℕ) (some : 0 < returned) where
             (read_there shown low);
         alone = λ i j c d at at' is is' same.
             let one = all i c at is in let other = all j d at' is' in omega (arith, one, other);
-        in_time = λ i j c d at at'.
-            of_both shown (λ i c. ComesBefore shown i c j d)
-            (of_both shown (λ j d. ComesBefore shown 0 first_call j d)
-            (λ le. absurd (omega (arith, le, some)))
-            (λ le. let one = in_order le in omega (arith, one)) j d at')
-            (of_both shown (λ j d. ComesBefore shown 1 (second_call shown) j d)
-            (λ le. absurd (omega (arith, le)))
-            (λ le. omega (arith)) j d at')
-            i c at;
+        in_time = λ i j c d at at'. grind (arith, common_steps, of_both);
       }
 
 pub accepted : (item : Item) (reader : ℕ) → HistoriesAccept item reader

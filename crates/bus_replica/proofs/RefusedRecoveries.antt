@@ -2,6 +2,7 @@
 use Rattle.std.proofs.Common.{◌≡◌, ℕ, List, [], ◌∷◌, ◌++◌, length, map, get_or, sym, ◌∙◌, ap}
 use Rattle.std.proofs.Common.{append_assoc, arith}
 use Rattle.std.proofs.lemmas.List.{append-nil, map-append}
+use Rattle.std.proofs.lemmas.Grind.{common_steps}
 use Rattle.bus_batch.specs.declared.messages.Item.{Item}
 use Rattle.bus_replica.specs.Replicas.{Folds, Begins, LeadTo, Then}
 use Rattle.bus_replica.specs.Sittings.{Kept, RecoveriesRefuse, keeps, kept_of, nothing}
@@ -27,19 +28,13 @@ pub recoveries_refuse : (a b : Item) → RecoveriesRefuse a b
 recoveries_refuse a b =
     let two : List Item = a ∷ b ∷ [] in
     record {
-      last_lost = λ l.
-          let long = ap (λ (z : Kept). length z) (leads_keep two (kept_of a ∷ []) l) in
-          absurd (omega (arith, long));
-      first_lost = λ l.
-          let long = ap (λ (z : Kept). length z) (leads_keep two (kept_of b ∷ []) l) in
-          absurd (omega (arith, long));
+      last_lost = λ l. grind (arith, common_steps, length, leads_keep);
+      first_lost = λ l. grind (arith, common_steps, length, leads_keep);
       doubled = λ l.
           let long = ap (λ (z : Kept). length z)
           (leads_keep two (kept_of a ∷ kept_of a ∷ kept_of b ∷ []) l) in
           absurd (omega (arith, long));
       turned = λ others l.
           others (sym (ap first_of (leads_keep two (kept_of b ∷ kept_of a ∷ []) l)));
-      misplaced = λ sender others l.
-          others (ap (λ z. (first_of z).0)
-          (leads_keep (a ∷ []) ((sender, (kept_of a).1) ∷ []) l));
+      misplaced = λ sender others l. grind (arith, common_steps, leads_keep);
     }

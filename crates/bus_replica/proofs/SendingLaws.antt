@@ -3,17 +3,15 @@ use Rattle.std.proofs.Common.{◌≡◌, ℕ, ◌+◌, Bool, true, false, List, 
 use Rattle.std.proofs.Common.{Some, None, inl, inr, refl, sym, ◌∙◌, ap, subst, append_assoc}
 use Rattle.std.proofs.Common.{arith}
 use Rattle.std.specs.Prelude.{IfSome, IfNone, IfOk, Result, Ok, Err, OnErr, OnOk}
-use Rattle.atomic_table.specs.declared.shared.Seat.{Seat}
 use Rattle.bus_batch.specs.Batches.{CanPut, CanClose, next_of}
 use Rattle.bus_batch.specs.declared.batches.CloseFault.{CloseFault}
 use Rattle.bus_batch.specs.declared.messages.Mark.{Mark}
 use Rattle.bus_batch.specs.declared.messages.Mark.TheVariants as mark
 use Rattle.bus_core.specs.Senders.{Sender as Held}
 use Rattle.bus_tenure.specs.Core.{Election}
-use Rattle.bus_tenure.specs.declared.pages.Page.{Page}
 use Rattle.bus_tenure.specs.declared.turns.Turn.{Turn}
 use Rattle.bus_world.specs.Headline.{HasPut, HasMarked, puts, put_of}
-use Rattle.std.proofs.lemmas.Grind.{flat_map-append}
+use Rattle.std.proofs.lemmas.Grind.{flat_map-append, common_steps}
 use Rattle.std.proofs.lemmas.List.{append-nil, length-append}
 use Rattle.bus_automaton.specs.Processes.{Process, Automaton}
 use Rattle.bus_automaton.specs.SenderTrails.{SenderTrail}
@@ -25,10 +23,8 @@ use Rattle.bus_pageslot.specs.Seats.{SenderSeat, first_number_of, actions_of, se
 use Rattle.bus_pageslot.specs.Seats.{table_of}
 use Rattle.bus_pageslot.specs.Sendings.{TakesAll, TakesNone, TakesMore}
 use Rattle.bus_pageslot.specs.Staying.{IsSameSender}
-use Rattle.bus_pageslot.specs.Steps.{all_in}
 use Rattle.bus_pageslot.specs.Turns.{Tellings, Turned, AsksOn, Begins, Goes, Asks, SendsAsking}
 use Rattle.bus_pageslot.specs.Turns.{StopsWaiting}
-use Rattle.bus_pageslot.specs.declared.rule.View.{View}
 use Rattle.bus_replica.specs.Causes.{WasAnswered}
 use Rattle.bus_replica.specs.Replicas.{PutsAll, PutsNow, PutsStay}
 use Rattle.bus_replica.specs.Replicas.{PutsAllOrNone, WorksOn, Rests}
@@ -96,12 +92,8 @@ module _ {C : Type 0} (P : Process C) (T : Tellings C)
       (result : Option Turn) (new : SenderSeat C)
       → IfSome result (λ turn. SendsAsking P T Tells first given turn new)
       → IfNone result (StopsWaiting P T Tells first given new) → IsSameSender P first new
-  tried_same Tells first given None new some none =
-      same_on P first none.old new (asks_same Tells first given none.old none.asked none.before)
-      (turned_same none.old new none.word none.answer none.turned)
-  tried_same Tells first given (Some answer) new some none =
-      same_on P first some.old new (asks_same Tells first given some.old some.asked some.before)
-      (turned_same some.old new some.word answer some.turned)
+  tried_same Tells first given None new some none = grind (arith, common_steps, same_on, asks_same)
+  tried_same Tells first given (Some answer) new some none = grind (arith, same_on, asks_same)
 
   pub tried_works : {F : Type 0} (Tells : F → Bool → F → Type 0) (first : SenderSeat C) (given : F)
       (result : Option Turn) (new : SenderSeat C)
@@ -166,12 +158,7 @@ stay P T s = record { puts_are = refl; first_is = refl; me_is = refl; works = Re
 
 pub stay_on : {C : Type 0} (P : Process C) (T : Tellings C) (a b c : SenderSeat C)
     → PutsStay P T a b → PutsStay P T b c → PutsStay P T a c
-stay_on P T a b c h k = record {
-  puts_are = k.puts_are ∙ h.puts_are;
-  first_is = k.first_is ∙ h.first_is;
-  me_is = k.me_is ∙ h.me_is;
-  works = works_trans P T false a b c h.works k.works;
-}
+stay_on P T a b c h k = grind (arith, common_steps, works_trans)
 
 -- what changes neither the sender nor what it did nor its table
 did_nothing : {C : Type 0} (P : Process C) (T : Tellings C) (old new : SenderSeat C)
@@ -195,9 +182,7 @@ look_stays P T A old new fits h table = did_nothing P T old new h.1.core h.1.did
 pub told_stays : {C : Type 0} (P : Process C) (T : Tellings C) (old new : SenderSeat C)
     → new.core ≡ old.core → new.seat.me ≡ old.seat.me → table_of new ≡ table_of old
     → PutsStay P T old new
-told_stays {C} P T old new core me table =
-    did_nothing P T old new core
-    (ap (λ (m : Sat C). all_in P m.0 new.core) me ∙ ap (all_in P old.seat.me.0) core) table
+told_stays {C} P T old new core me table = grind (arith, common_steps, did_nothing)
 
 -- ---- puts
 -- a put by its contract
@@ -250,20 +235,7 @@ pub now_on : {C : Type 0} (P : Process C) (first old new : SenderSeat C) (n numb
     → PutsNow P old new number (bytes ∷ [])
     → PutsNow P first new number (messages ++ bytes ∷ [])
 now_on P first old new n number messages bytes before more =
-    let put = before.puts_are in
-    let all = length-append (puts (actions_of P first)) messages in
-    let long = ap length put in
-    let both = length-append messages (bytes ∷ []) in
-    let start = before.first_is in
-    let number_is = more.number_is in
-    record {
-      puts_are = more.puts_are ∙ ap (λ z. z ++ bytes ∷ []) put
-          ∙ append_assoc (puts (actions_of P first)) messages (bytes ∷ []);
-      first_is = more.first_is ∙ start;
-      number_is = omega (arith, number_is, start, long, all, both);
-      me_is = more.me_is ∙ before.me_is;
-      takes = takes_trans P first old new messages (bytes ∷ []) before.takes more.takes;
-    }
+    grind (arith, common_steps, length-append, length, append_assoc, takes_trans)
 
 pub now_all : {C : Type 0} (P : Process C) (T : Tellings C) (old new : SenderSeat C) (number : ℕ)
     (messages : List (List ℕ)) → PutsNow P old new number messages
@@ -302,10 +274,7 @@ pub stays_more : {C : Type 0} (P : Process C) (T : Tellings C) (first old new : 
 stays_more P T first old new number messages stays more = record {
   puts_are = more.puts_are ∙ ap (λ z. z ++ messages) stays.puts_are;
   first_is = more.first_is ∙ stays.first_is;
-  number_is =
-      more.number_is
-      ∙ ap (λ z. z + length (puts (actions_of P old)) + length messages) stays.first_is
-      ∙ ap (λ z. first_number_of P first + length z + length messages) stays.puts_are;
+  number_is = grind (arith, common_steps, length);
   me_is = more.me_is ∙ stays.me_is;
   at = more.at;
   after = more.after;
@@ -332,10 +301,7 @@ more_stays P T first old new number messages more stays = record {
 -- what a refused put or mark leaves
 same_seat : {C : Type 0} (old new : SenderSeat C) → new.core ≡ old.core → new.seat ≡ old.seat
     → new ≡ old
-same_seat {C} old new core seat =
-    let made : C → Seat (Option Page) (View C) → SenderSeat C = λ c s.
-    record { core = c; seat = s } in
-    ap (λ c. made c new.seat) core ∙ ap (made old.core) seat
+same_seat {C} old new core seat = grind (arith, common_steps)
 
 pub put_stays : {C V E : Type 0} (P : Process C) (T : Tellings C) (result : Result V E)
     (old new : SenderSeat C) → OnErr result (new.core ≡ old.core) → new.seat ≡ old.seat
@@ -348,21 +314,11 @@ put_stays {C} P T (Err e) old new core seat =
 -- ---- who leaves
 pub leaving : {C : Type 0} (P : Process C) (T : Tellings C) (a b : SenderSeat C)
     → PutsStay P T a b → PutsStayLeaving P T a b
-leaving P T a b h = record {
-  puts_are = h.puts_are;
-  first_is = h.first_is;
-  me_is = h.me_is;
-  works = works_also P T true a b h.works;
-}
+leaving P T a b h = grind (arith, common_steps, works_also)
 
 pub leaving_trans : {C : Type 0} (P : Process C) (T : Tellings C) (a b c : SenderSeat C)
     → PutsStayLeaving P T a b → PutsStayLeaving P T b c → PutsStayLeaving P T a c
-leaving_trans P T a b c h k = record {
-  puts_are = k.puts_are ∙ h.puts_are;
-  first_is = k.first_is ∙ h.first_is;
-  me_is = k.me_is ∙ h.me_is;
-  works = works_trans P T true a b c h.works k.works;
-}
+leaving_trans P T a b c h k = grind (arith, common_steps, works_trans)
 
 pub leaving_on : {C : Type 0} (P : Process C) (T : Tellings C) (a b c : SenderSeat C)
     → PutsStayLeaving P T a b → PutsStay P T b c → PutsStayLeaving P T a c
@@ -380,9 +336,7 @@ pub leave_taken : {C : Type 0} (P : Process C) (T : Tellings C)
 leave_taken P T (Ok x) old new core action could seat same =
     let one = same old new mark.Leave core seat in
     record {
-      puts_are =
-          ap puts action ∙ flat_map-append put_of (actions_of P old) (HasMarked mark.Leave ∷ [])
-          ∙ append-nil (puts (actions_of P old));
+      puts_are = grind (arith, common_steps, flat_map-append, append-nil);
       first_is = one.first;
       me_is = one.me;
       works = Leaves old new refl Rests

@@ -2,13 +2,14 @@
 use Rattle.std.proofs.Common.{◌≡◌, ℕ, ◌+◌, ◌≤◌, true, false, List, [], ◌∷◌, ◌++◌, length}
 use Rattle.std.proofs.Common.{Option, refl, sym, ◌∙◌, ap, subst, append_assoc, arith}
 use Rattle.std.proofs.lemmas.List.{length-append}
+use Rattle.std.proofs.lemmas.Grind.{common_steps}
 use mathlib.Core.Option.{some}
 use lib.ListN.{get_elem?}
 use Rattle.atomic_table.specs.Table.{State}
 use Rattle.bus_batch.specs.Frames.{Frame, AreFramesFrom, log_words, frame_words}
 use Rattle.bus_batch.proofs.FrameLaws.{same_frame}
 use Rattle.bus_tenure.specs.declared.pages.Page.{Page}
-use Rattle.bus_world.specs.Headline.{IsPrefix, order_given}
+use Rattle.bus_world.specs.Headline.{IsPrefix}
 use Rattle.bus_automaton.specs.Processes.{Process, Automaton, TableLayout, log_in}
 use Rattle.bus_pageslot.specs.ReceiverViews.{HasHeard, Begins}
 use Rattle.bus_pageslot.specs.Rule.{Ear, TableInvariant, IsTrueOf, KnowsLog, receiver_view_in}
@@ -77,8 +78,4 @@ module _ {C : Type 0} (P : Process C) (A : Automaton C) where
       → has_view w ≡ true → length (log_in A r.state) ≤ (receiver_view_in w).place
       → IsPrefix (items_heard v) (items_heard w)
   items_on s t r q later i j v w at at' has has' far =
-      let e = receiver_view_in v in
-      let f = receiver_view_in w in
-      let b = reads_on s t r q later i j v w at at' has has' far in
-      let p = items_begin e.answers f.answers (order_given f.answers) b.order in
-      record { rest = p.rest; together = p.together ∙ sym (items_given f.answers) }
+      grind (arith, common_steps, reads_on, items_begin, items_given)
