@@ -134,11 +134,11 @@ pub fn steps_are_bounded<Q: Ratifier>()
 
 /// A stop that is answered changes who has stopped, and nothing else: what is no event of that
 /// sender does what it did before, and is answered and refused alike. Whoever has stopped does
-/// nothing any more, whatever events happen next: none of it is answered, it holds what it held, and
-/// it has no action more and no step of a pin or of a reclamation; whatever else is wrong with an
-/// event of it, it is refused as Stopped. A stop that does nothing is none. Nothing is refused as
-/// Stopped of one that goes on, or that there is not, or of a receiver. One that goes on may stop,
-/// and nobody stops but by a stop of its own.
+/// nothing any more, whatever events happen next: none of it is answered, it holds what it held,
+/// and it has no action more and no step of a pin or of a reclamation; whatever else is wrong with
+/// an event of it, it is refused as Stopped. A stop that does nothing is none. Nothing is refused
+/// as Stopped of one that goes on, or that there is not, or of a receiver. One that goes on may
+/// stop, and nobody stops but by a stop of its own.
 pub fn stops_are_for_good<Q: Ratifier>()
     ensures stops { StopsAreForGood (election_of Q.Ratifier) Q.protocol }
     ensures refuses { StopRefuses (election_of Q.Ratifier) }
