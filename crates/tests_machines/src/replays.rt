@@ -44,7 +44,7 @@ fn two_collects_disagree_too(rt: HostRuntime) {
 fn receivers_fork_by_two_collects_too(rt: HostRuntime) {
     plays_by_two_collects(
         &rt,
-        b"ring 1 1 1 2 16 3\nput 0 61\nturn 0 0 99\nturn 0 0 99\nrecv 0 2\nfork 0 2\nfork 0 2\n\
+        b"ring 2 1 1 2 16 3\nput 0 61\nturn 0 0 99\nturn 0 0 99\nrecv 0 2\nfork 0 2\nfork 0 2\n\
           recv 2 1\nrecv 2 99\ngone 2\nfork 0 2\n",
         "put 0: number 0\nturn 0: own 0\nturn 0: delivered 0 0 0\nrecv 0: head 0 0\n\
           fork 0 2: forked\nfork 0 2: no seat\nrecv 2: going\nrecv 2: empty\ngone 2: gone\n\
