@@ -79,11 +79,11 @@ pub fn history_stands<Q: Ratifier>()
     election_is_lawful::<Q>();
 }
 
-/// Each receiver was given just what the words say that stand before its place, of all that was
-/// published. So of any two who has read less was given a beginning of what the other was given,
-/// and from a fork on its maker and the new one were given the same, as far as both have read. None
-/// is so that has read no word, and was given something; nor are two that have read as many words,
-/// and were given two orders.
+/// Each receiver was given, of the order, just what the words say that stand before its place, of
+/// all that was published. So of any two who has read less was given a beginning of what the other
+/// was given, and from a fork on its maker and the new one were given the same, as far as both have
+/// read. None is so that has read no word, and was given an item or a leave mark; nor are two that
+/// have read as many words, and were given two orders.
 pub fn receivers_are_given_alike<Q: Ratifier>()
     ensures given { let X = election_of Q.Ratifier in
         (senders rounds rows capacity passers : ℕ)
