@@ -1,10 +1,13 @@
 -- What was read is a prefix of what the whole log says.
 use Rattle.std.proofs.Common.{◌≡◌, ℕ, ◌+◌, ◌⊎◌, List, [], ◌∷◌, ◌++◌, true, false, Option, Some}
-use Rattle.std.proofs.Common.{refl, sym, ap, ◌∙◌, subst, append-nil, inl, inr}
+use Rattle.std.proofs.Common.{◌≤◌, length, take, drop, refl, sym, ap, ◌∙◌, subst, append-nil, inl}
+use Rattle.std.proofs.Common.{inr, arith}
 use Rattle.std.specs.Prelude.{◌||◌}
 use Rattle.std.specs.List.{flat_map, list_any}
 use Rattle.std.proofs.lemmas.Bool.{false≢true, or_parts}
 use Rattle.std.proofs.lemmas.List.Concat.{flat_map-append}
+use Rattle.std.proofs.lemmas.Grind.{common_steps}
+use Rattle.std.proofs.lemmas.List.{length-drop, take-append-drop, take-take, take_all}
 use Rattle.std.proofs.lemmas.List.Folds.{list_any-append}
 use Rattle.bus_register.specs.declared.registers.SenderNo.{SenderNo}
 use Rattle.bus_batch.specs.declared.messages.Mark.TheVariants as mark
@@ -120,3 +123,24 @@ reads_a_prefix senders words rest pieces reader order owners had s =
           (order_in-prefix senders s.frames pieces after.0 s.lawful after.2),
       (flat_map piece_owners after.0, owners_are ∙ flat_map-append piece_owners pieces after.0),
     )
+
+-- fewer pieces say a beginning of what more say
+pub taken_begins : (senders : ℕ) (frames : List Frame) → AreFrames senders frames → (p q : ℕ)
+    → p ≤ q
+    → IsPrefixOfOrder (order_in (take p (log_pieces frames)))
+    (order_in (take q (log_pieces frames)))
+taken_begins senders frames lawful p q less =
+    let all = log_pieces frames in
+    let rest = drop p (take q all) in
+    let front : take q all ≡ take p all ++ rest =
+    sym (ap (λ z. z ++ rest) (sym (take-take p q all less)) ∙ take-append-drop p (take q all)) in
+    record {
+      later = flat_map piece_entries rest;
+      entries = grind (arith, common_steps, flat_map-append, take);
+      ended = λ over.
+          let none : drop p all ≡ [] = end_last senders 0 frames (take p all) (drop p all) lawful
+          (sym (take-append-drop p all)) over in
+          let size = length-drop p all in
+          let nothing = ap length none in
+          ap order_in (take_all p all (omega arith) ∙ sym (take_all q all (omega arith)));
+    }

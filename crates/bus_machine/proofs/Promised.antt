@@ -1,6 +1,7 @@
 -- Whatever leads to a machine, the promise holds of it: of both kinds of rows, by the frames of its
 -- log.
-use Rattle.std.proofs.Common.{ℕ, map, refl}
+use Rattle.std.proofs.Common.{ℕ, map, arith}
+use Rattle.std.proofs.lemmas.Grind.{common_steps}
 use Rattle.bus_batch.specs.Frames.{Spells, order_of, tenure_and_owner}
 use Rattle.bus_register.specs.Protocol.{Protocol}
 use Rattle.bus_tenure.specs.Core.{Election}
@@ -23,13 +24,7 @@ module _ {E : Type 0} (X : Election E) (P : Protocol E (Unit {0}) ℕ) (m : Mach
 
   -- what was published spells the order of its frames
   spelled : Spells m.layout.senders T.log (order_of f.frames) (map tenure_and_owner f.frames)
-  spelled = record {
-    frames = f.frames;
-    lawful = f.sending.log.lawful;
-    words_are = f.log_is;
-    order_is = refl;
-    owners_are = refl;
-  }
+  spelled = grind (arith, common_steps, f)
 
   -- who took the pages
   told : TakersTold m.reuse m.owners T.actions

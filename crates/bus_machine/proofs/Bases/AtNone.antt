@@ -1,69 +1,63 @@
 -- With a row for each tenure what happens to the machine happens to the bus that it is, and what
 -- leads to it leads to that bus.
-use Rattle.std.proofs.Common.{◌≡◌, inl, inr, ℕ, ◌+◌, ◌*◌, suc, List, [], ◌∷◌, ◌++◌, Option, Some}
-use Rattle.std.proofs.Common.{None, Bool, ◌≤◌, nat_lt, arith}
-use Rattle.std.proofs.Common.{true, false, cond, map, slice_get, slice_set, slice_index, refl, sym}
-use Rattle.std.proofs.Common.{◌∙◌, ap, subst}
+use Rattle.std.proofs.Common.{◌≡◌, inl, inr, ℕ, ◌+◌, suc, List, [], ◌∷◌, ◌++◌, Option, Some, None}
+use Rattle.std.proofs.Common.{Bool, ◌≤◌, nat_lt, arith, true, false, cond, map, slice_get}
+use Rattle.std.proofs.Common.{slice_set, slice_index, refl, sym, ◌∙◌, ap, subst}
 use Rattle.std.specs.Prelude.{replicate, length, ◌<◌, ◌==◌, option_map, ◌&&◌}
 use Rattle.std.proofs.Math.Path.{fun_ext}
 use Rattle.std.proofs.lemmas.List.{append-nil, map-set, get_or-set_other}
 use Rattle.std.proofs.lemmas.Bool.{cases_eq}
 use Rattle.std.proofs.lemmas.Option.{slice_get-map, same_Some, slice_get_within}
+use Rattle.std.proofs.lemmas.Grind.{common_steps}
 use Rattle.bus_register.specs.Private.TableLaws.{get_set_same, get_set_other}
-use Rattle.bus_batch.specs.Batches.{Pending, next_of, CanPut, CanClose}
+use Rattle.bus_batch.specs.Batches.{Pending, CanPut, CanClose}
 use Rattle.bus_batch.specs.declared.batches.Phase.TheVariants.{Marking}
 use Rattle.bus_batch.specs.declared.messages.Mark.{Mark}
 use Rattle.bus_core.proofs.Bridged.{at_none}
-use Rattle.bus_core.specs.Keeping.{new_sender, queue_of}
+use Rattle.bus_core.specs.Keeping.{queue_of}
 use Rattle.bus_core.specs.Senders.{Sender, situation}
 use Rattle.bus_core.specs.Private.Bridge.{with_a_row_each}
 use Rattle.bus_core.specs.Table.{line_now}
-use Rattle.bus_core.specs.declared.limits.TheConstants.{PASSED_APART}
 use Rattle.bus_deliverylog.specs.Receiving.{Receiving, with_leave, joining_by, joining_op}
 use Rattle.bus_deliverylog.specs.Receiving.{forked_at}
 use Rattle.bus_presence.proofs.ReclamationKept.{lt_tells}
 use Rattle.bus_deliverylog.specs.declared.receiving.RecvTurn.{RecvTurn}
-use Rattle.bus_tenure.specs.Core.{Core, Election, Layout, is_empty, log_at, stage_at}
+use Rattle.bus_tenure.specs.Core.{Core, Election, Layout, is_empty, log_at}
 use Rattle.bus_tenure.specs.Situations.{situation_of, line_of, op_at, answer_at}
 use Rattle.bus_tenure.specs.declared.turns.Turn.{Turn as Answered}
 use Rattle.bus_world.proofs.EventTrails.{put_taken}
 use Rattle.bus_world.proofs.ReceiverSteps.{leaves_only, reads_only}
 use Rattle.bus_world.specs.Headline.{Action}
 use Rattle.bus_world.specs.Log.{words_of_frame}
-use Rattle.bus_world.specs.Private.Answers.{TurnAnswers, PutGives, CloseGives, RecvAnswers}
-use Rattle.bus_world.specs.Private.Answers.{StopGives, LeaveGives}
+use Rattle.bus_world.specs.Private.Answers.{TurnAnswers, CloseGives, RecvAnswers, StopGives}
+use Rattle.bus_world.specs.Private.Answers.{LeaveGives}
 use Rattle.bus_world.specs.Private.Trails.{New, Then, Copied, turning_actions, turn_actions}
 use Rattle.bus_world.specs.Private.Trails.{log_by}
 use Rattle.bus_world.specs.Private.Trails.{heard_of, trails_grown as plain_grown}
 use Rattle.bus_world.specs.Private.Trails.{Reached as PlainReached}
-use Rattle.bus_world.specs.Private.Machines.{side_after, core_after, home_after, Bus, SenderDoes}
-use Rattle.bus_world.specs.Private.Machines.{ReceiverDoes, LeaverDoes, StopDoes, can_close}
-use Rattle.bus_world.specs.Private.Machines.{is_open, new_core}
-use Rattle.bus_world.specs.Private.Machines.{going as plain_going, with_sender as plain_with}
-use Rattle.bus_world.specs.Private.Machines.{put_in as plain_put, mark_in as plain_mark}
+use Rattle.bus_world.specs.Private.Machines.{side_after, core_after, home_after, Bus, StopDoes}
+use Rattle.bus_world.specs.Private.Machines.{can_close, is_open, new_core, going as plain_going}
+use Rattle.bus_world.specs.Private.Machines.{with_sender as plain_with, put_in as plain_put}
+use Rattle.bus_world.specs.Private.Machines.{mark_in as plain_mark}
 use Rattle.bus_world.proofs.PlayingLaws.{owners_told as answer_tells}
 use Rattle.bus_world.specs.Turning.{owners_by, words_after, number_found}
 use Rattle.bus_world.specs.Starting.{IsNewReceiver}
-use Rattle.bus_world.specs.World.{Event, Put, Ask, Turn, Recv, Stop, Gone, is_set, RecvDoes}
+use Rattle.bus_world.specs.World.{Event, Put, Ask, Turn, Recv, Stop, Gone, RecvDoes}
 use Rattle.bus_world.specs.Trails.{actions_with}
 use Rattle.bus_world.specs.declared.events.Answer.{Answer}
 use Rattle.bus_world.specs.declared.events.Answer.TheVariants as answer
 use Rattle.bus_machine.specs.Private.Bridge.{of_bus, plain_trails, IsPlainEvent, HappensAtNone}
 use Rattle.bus_machine.specs.Private.Bridge.{IsPlain, NonePasses}
-use Rattle.bus_machine.specs.Machine.{base_of, Machine, Trails, Reached, New as Start}
-use Rattle.bus_machine.specs.Machine.{Then as Next, Joins, Forks, fork_in, trails_joined}
-use Rattle.bus_machine.specs.Machine.{TakesTurn, TakesPut, TakesMark}
-use Rattle.bus_machine.specs.Machine.{StopsNow, Hears, LeavesForGood, Happens, IsNew}
+use Rattle.bus_machine.specs.Machine.{base_of, Machine, Trails, Reached, New as Start, Then as Next}
+use Rattle.bus_machine.specs.Machine.{Joins, Forks, fork_in, trails_joined, TakesTurn, TakesPut}
+use Rattle.bus_machine.specs.Machine.{TakesMark, StopsNow, Hears, LeavesForGood, Happens, IsNew}
 use Rattle.bus_machine.specs.Machine.{no_machine_trails, trails_grown, turn_grown, turn_trails}
 use Rattle.bus_machine.specs.Machine.{log_place, going, passed_by, passers_place, stage_of}
-use Rattle.bus_machine.specs.Machine.{with_sender, put_in, mark_in, machine_after, found}
-use Rattle.bus_machine.specs.Machine.{turn_answer}
+use Rattle.bus_machine.specs.Machine.{machine_after, found, turn_answer}
 
 closed_by : {A : Type 0} (o b : Bool) (xs : List A) → o ≡ true → b ≡ false → xs ≡ []
     → o && ((cond b false true) && is_empty xs) ≡ true
-closed_by o b xs i j k =
-    ap (λ y. y && ((cond b false true) && is_empty xs)) i
-    ∙ ap (λ y. (cond y false true) && is_empty xs) j ∙ ap is_empty k
+closed_by o b xs i j k = cc
 
 pub close_taken : (q : Pending) → CanClose q → can_close q ≡ true
 close_taken q c = closed_by (is_open q.phase) q.busy q.messages (ap is_open c.is_open) c.idle c.none
@@ -95,9 +89,7 @@ opened : {E : Type 0} (bases : List ℕ) (x : Layout) (b : Bus E) (s : ℕ) (v :
     → going (of_bus bases x b) s ≡ Some v
     → (c : Core E) × (plain_going b s ≡ Some c) × (v ≡ with_a_row_each c)
     × (slice_get b.side.senders s ≡ Some c)
-opened bases x b s v g = opened_at with_a_row_each (is_set (slice_get b.stopped s))
-    (slice_get (map with_a_row_each b.side.senders) s) (slice_get b.side.senders s) v
-    (slice_get-map with_a_row_each b.side.senders s) g
+opened bases x b s v g = grind (arith, opened_at, with_a_row_each, slice_get, map, slice_get-map)
 
 -- ---- one event
 nothing_heard : (H : ℕ → List RecvTurn) → (λ (r : ℕ). H r ++ []) ≡ H
@@ -173,17 +165,9 @@ module _ {E : Type 0} (X : Election E) (bases : List ℕ) (x : Layout) (b : Bus 
       let new = record b { side = side_after X b.side s c z word } in
       record {
         bus = new;
-        is =
-            h.after ∙ ap (λ v. machine_after (of_bus bases x b) s (line_now X v) word) o.2
-            ∙ turn_is s c word;
+        is = grind (arith, common_steps, of_bus, turn_is);
         event = tt;
-        happens = (
-          subst (λ k.
-              SenderDoes b.side k (λ y. side_after X b.side s y (situation_of X y) word) new.side)
-              (sym o.1) refl,
-          refl,
-          refl,
-        );
+        happens = grind (arith, common_steps, side_after);
         answers = subst (λ k. TurnAnswers X b.side.words k word a) (sym o.1) told;
         trails = turn_adds s word a _ c told o.1 (h.goes ∙ ap Some o.2);
       }
@@ -200,27 +184,11 @@ module _ {E : Type 0} (X : Election E) (bases : List ℕ) (x : Layout) (b : Bus 
       let new = record b { side = plain_with b.side s put } in
       record {
         bus = new;
-        is =
-            h.after ∙ ap (λ v. with_sender (of_bus bases x b) s (put_in v bytes)) o.2
-            ∙ ap (λ l. record (of_bus bases x b) { senders = l })
-            (sym (map-set with_a_row_each b.side.senders s put));
+        is = grind (arith, common_steps, of_bus, map-set, with_a_row_each);
         event = h.are_bytes;
-        happens = (
-          subst (λ k. SenderDoes b.side k (λ y. plain_with b.side s (plain_put y bytes)) new.side)
-              (sym o.1) (ap (λ t. plain_with b.side s (cond t put c)) (sym may)),
-          refl,
-          refl,
-        );
-        answers = (
-          next_of c.queue,
-          subst (λ k. PutGives k (length bytes) (next_of c.queue)) (sym o.1) (can, refl),
-          h.answered ∙ ap (λ (v : Sender E). answer.Number (next_of v.core.queue)) o.2,
-        );
-        trails = λ T. ap (λ k. record {
-          actions = (trails_grown X (of_bus bases x b) (Put s bytes) a T).actions;
-          heard = k;
-          log = T.log;
-        }) (nothing_heard T.heard);
+        happens = grind (arith, common_steps, plain_with, plain_put);
+        answers = grind (arith, common_steps);
+        trails = λ T. grind (arith, common_steps, of_bus, nothing_heard);
       }
 
   marks : (s : ℕ) (asked : Mark) (a : Answer) (m : Machine E)
@@ -234,23 +202,11 @@ module _ {E : Type 0} (X : Election E) (bases : List ℕ) (x : Layout) (b : Bus 
       let new = record b { side = plain_with b.side s marked } in
       record {
         bus = new;
-        is =
-            h.after ∙ ap (λ v. with_sender (of_bus bases x b) s (mark_in v asked)) o.2
-            ∙ ap (λ l. record (of_bus bases x b) { senders = l })
-            (sym (map-set with_a_row_each b.side.senders s marked));
+        is = grind (arith, common_steps, of_bus, map-set, with_a_row_each);
         event = tt;
-        happens = (
-          subst (λ k. SenderDoes b.side k (λ y. plain_with b.side s (plain_mark y asked)) new.side)
-              (sym o.1) (ap (λ t. plain_with b.side s (cond t marked c)) (sym may)),
-          refl,
-          refl,
-        );
+        happens = grind (arith, common_steps, plain_with, plain_mark);
         answers = (subst CloseGives (sym o.1) can, h.answered);
-        trails = λ T. ap (λ k. record {
-          actions = (trails_grown X (of_bus bases x b) (Ask s asked) a T).actions;
-          heard = k;
-          log = T.log;
-        }) (nothing_heard T.heard);
+        trails = λ T. grind (arith, common_steps, of_bus, nothing_heard);
       }
 
   stops : (s : ℕ) (a : Answer) (m : Machine E) → StopsNow (of_bus bases x b) s a m
@@ -264,11 +220,7 @@ module _ {E : Type 0} (X : Election E) (bases : List ℕ) (x : Layout) (b : Bus 
         event = tt;
         happens = (refl, refl, subst (λ k. StopDoes b.stopped s k new.stopped) (sym o.1) refl);
         answers = (subst StopGives (sym o.1) tt, h.answered);
-        trails = λ T.
-            ap (λ k. record { actions = k; heard = λ r. T.heard r ++ []; log = T.log })
-            (nothing_done T.actions)
-            ∙ ap (λ k. record { actions = T.actions; heard = k; log = T.log })
-            (nothing_heard T.heard);
+        trails = λ T. grind (arith, common_steps, nothing_done, nothing_heard);
       }
 
   leaves : (r : ℕ) (a : Answer) (m : Machine E) → NonePasses b.receivers
@@ -277,22 +229,11 @@ module _ {E : Type 0} (X : Election E) (bases : List ℕ) (x : Layout) (b : Bus 
       let new = record b { receivers = slice_set b.receivers r (with_leave h.receiver) } in
       record {
         bus = new;
-        is =
-            h.after
-            ∙ ap (λ w. record (of_bus bases x b) { words = w; receivers = new.receivers })
-            (leaves_only b.side.words h.receiver (none r h.receiver h.there));
+        is = grind (arith, common_steps, of_bus, leaves_only);
         event = tt;
-        happens = (
-          refl,
-          subst (λ o. LeaverDoes b.receivers r o new.receivers) (sym h.there) refl,
-          refl,
-        );
+        happens = grind (arith, common_steps);
         answers = (subst LeaveGives (sym h.there) tt, h.answered);
-        trails = λ T.
-            ap (λ k. record { actions = k; heard = λ r. T.heard r ++ []; log = T.log })
-            (nothing_done T.actions)
-            ∙ ap (λ k. record { actions = T.actions; heard = k; log = T.log })
-            (nothing_heard T.heard);
+        trails = λ T. grind (arith, common_steps, nothing_done, nothing_heard);
       }
 
   hears : (r : ℕ) (a : Answer) (m : Machine E) → NonePasses b.receivers
@@ -301,17 +242,9 @@ module _ {E : Type 0} (X : Election E) (bases : List ℕ) (x : Layout) (b : Bus 
       let new = record b { receivers = slice_set b.receivers r h.next } in
       record {
         bus = new;
-        is =
-            h.after
-            ∙ ap (λ w. record (of_bus bases x b) { words = w; receivers = new.receivers })
-            (reads_only b.side.words h.receiver (none r h.receiver h.there));
+        is = grind (arith, of_bus, reads_only);
         event = tt;
-        happens = (
-          refl,
-          subst (λ o. ReceiverDoes b.side.words b.receivers r o new.receivers) (sym h.there)
-              (h.next, h.heard, h.does, refl),
-          refl,
-        );
+        happens = grind (arith, common_steps);
         answers = subst (λ o. RecvAnswers b.side.words b.receivers r o a new.receivers)
             (sym h.there) (h.next, h.heard, h.does, refl, h.answered);
         trails = λ T.
@@ -339,11 +272,7 @@ happens_at_none X bases x b (Gone r) a m none h = leaves X bases x b r a m none 
 
 -- where no word of the log is used again there is no passed place
 pub passed_first : (x : Layout) (o : Option ℕ) (r : ℕ) → x.passers ≡ 0 → passed_by x o r ≡ None
-passed_first x o r flat = elim (lt_tells r x.passers) [
-  | inl low ↦ absurd (let a = low.1 in omega arith)
-  | inr past ↦
-      ap (λ b. cond {A = Option ℕ} b (Some (passers_place x o + PASSED_APART * r)) None) past.0
-]
+passed_first x o r flat = grind (arith, common_steps, lt_tells)
 
 -- and each lies behind length and stage
 passers_behind : (x : Layout) (o : Option ℕ) → 2 ≤ passers_place x o
@@ -352,14 +281,7 @@ passers_behind x (Some rows) = omega arith
 
 pub passed_past : (x : Layout) (o : Option ℕ) (r place : ℕ) → passed_by x o r ≡ Some place
     → 2 ≤ place
-passed_past x o r place e = by (nat_lt r x.passers) e where
-  by : (b : Bool)
-      → cond {A = Option ℕ} b (Some (passers_place x o + PASSED_APART * r)) None ≡ Some place
-      → 2 ≤ place
-  by false i = absurd cc
-  by true i =
-      let same : passers_place x o + PASSED_APART * r ≡ place = same_Some _ _ i in
-      let past = passers_behind x o in omega arith
+passed_past x o r place e = grind (arith, common_steps, nat_lt, same_Some, passers_behind)
 
 -- ---- a fork that is done
 module _ {E : Type 0} (m m' : Machine E) (i j : ℕ) (h : Forks m i j true m') where
@@ -374,10 +296,7 @@ module _ {E : Type 0} (m m' : Machine E) (i j : ℕ) (h : Forks m i j true m') w
   pub fork_stores : (place : ℕ) → passed_by m.layout m.reuse j ≡ Some place
       → words_after m.words (joining_op (fork_in m j h.maker))
       ≡ slice_set m.words place h.maker.passed
-  fork_stores place at =
-      ap (λ o. words_after m.words (joining_by o h.maker.passed)) at
-      ∙ ap (λ b. slice_set m.words place (cond b h.maker.passed (slice_index m.words place)))
-      (sym (h.finds place at))
+  fork_stores place at = grind (arith, common_steps, slice_set, slice_index)
 
   -- without a passed place no word changes
   pub fork_is : passed_by m.layout m.reuse j ≡ None
@@ -386,32 +305,15 @@ module _ {E : Type 0} (m m' : Machine E) (i j : ℕ) (h : Forks m i j true m') w
 
   -- it leaves the stage
   pub fork_rises : stage_of m ≤ stage_of m'
-  fork_rises = by (passed_by m.layout m.reuse j) refl where
-    by : (o : Option ℕ) → passed_by m.layout m.reuse j ≡ o → stage_of m ≤ stage_of m'
-    by None none = let now = ap (λ (y : Machine E). stage_of y) (fork_is none) in omega arith
-    by (Some place) at =
-        let past = passed_past m.layout m.reuse j place at in
-        let now = ap (λ (y : Machine E). stage_of y) h.after
-        ∙ ap (λ ws. slice_index ws stage_at) (fork_stores place at)
-        ∙ get_or-set_other m.words place stage_at h.maker.passed 0 (λ same. omega arith) in
-        omega arith
+  fork_rises =
+      grind (arith, common_steps, fork_is, passed_past, slice_index, fork_stores, get_or-set_other)
 
 -- ---- what is reached
 module _ {E : Type 0} (X : Election E) where
   new_plain : (w : Machine E) → IsNew w → w.reuse ≡ None → IsPlain X w no_machine_trails
   new_plain w new e = record {
     bus = b;
-    is =
-        ap (λ r. record w { reuse = r }) e
-        ∙ ap (λ l. record w { reuse = None; senders = l })
-        (sym (rebuilt with_a_row_each (λ (v : Sender E). v.core) w.senders
-        (λ p v at.
-        let i = (new.senders p v at).1 in
-        ap (λ (y : Sender E). with_a_row_each y.core) i
-        ∙ ap (λ r. new_sender w.layout p r (base_of w p)) (sym e) ∙ sym i)))
-        ∙ ap
-        (λ o. record w { reuse = None; senders = map with_a_row_each b.side.senders; owners = o })
-        new.owners;
+    is = grind (arith, common_steps, rebuilt, with_a_row_each, map, b);
     reached = New b record {
       bases_are = new.bases_are;
       words = new.words ∙ ap (λ r. replicate (log_place w.layout r + w.layout.capacity) 0) e;
@@ -440,11 +342,7 @@ module _ {E : Type 0} (X : Election E) where
 
     core_new : (p : ℕ) (c : Core E) → slice_get b.side.senders p ≡ Some c
         → (p < w.layout.senders) × (c ≡ new_core w.layout (base_of w p) p)
-    core_new p c at =
-        let v = made_there (λ (y : Sender E). y.core) (slice_get w.senders p) c
-        (sym (slice_get-map (λ (y : Sender E). y.core) w.senders p) ∙ at) in
-        let n = new.senders p v.0 v.1 in
-        (n.0, v.2 ∙ ap (λ (y : Sender E). y.core) n.1)
+    core_new p c at = grind (arith, common_steps, made_there, slice_get, slice_get-map)
 
   pub next_plain : (w m : Machine E) (T : Trails) (e : Event) (a : Answer) → Happens X w e a m
       → NonePasses w.receivers → IsPlain X w T → IsPlain X m (trails_grown X w e a T)
@@ -454,9 +352,7 @@ module _ {E : Type 0} (X : Election E) where
       (subst (λ y. Happens X y e a m) i.is h) in
       record {
         bus = k.bus;
-        is =
-            k.is ∙ ap (λ l. of_bus w.bases l k.bus) (sym (ap (λ (y : Machine E). y.layout) k.is))
-            ∙ ap (λ l. of_bus l m.layout k.bus) (sym (ap (λ (y : Machine E). y.bases) k.is));
+        is = cc;
         reached = subst
             (λ l. PlainReached X l m.layout k.bus (plain_trails (trails_grown X w e a T)))
             (sym (ap (λ (y : Machine E). y.bases) k.is))
@@ -471,37 +367,16 @@ module _ {E : Type 0} (X : Election E) where
 
   pub event_reuse : (w m : Machine E) (e : Event) (a : Answer) → Happens X w e a m
       → (m.layout ≡ w.layout) × (m.reuse ≡ w.reuse)
-  event_reuse w m (Put s bytes) a h = (
-    ap (λ (y : Machine E). y.layout) h.after,
-    ap (λ (y : Machine E). y.reuse) h.after,
-  )
-  event_reuse w m (Ask s asked) a h = (
-    ap (λ (y : Machine E). y.layout) h.after,
-    ap (λ (y : Machine E). y.reuse) h.after,
-  )
-  event_reuse w m (Turn s word) a h = (
-    ap (λ (y : Machine E). y.layout) h.after,
-    ap (λ (y : Machine E). y.reuse) h.after,
-  )
-  event_reuse w m (Recv r) a h = (
-    ap (λ (y : Machine E). y.layout) h.after,
-    ap (λ (y : Machine E). y.reuse) h.after,
-  )
-  event_reuse w m (Stop s) a h = (
-    ap (λ (y : Machine E). y.layout) h.after,
-    ap (λ (y : Machine E). y.reuse) h.after,
-  )
-  event_reuse w m (Gone r) a h = (
-    ap (λ (y : Machine E). y.layout) h.after,
-    ap (λ (y : Machine E). y.reuse) h.after,
-  )
+  event_reuse w m (Put s bytes) a h = grind (arith, common_steps)
+  event_reuse w m (Ask s asked) a h = grind (arith, common_steps)
+  event_reuse w m (Turn s word) a h = grind (arith, common_steps)
+  event_reuse w m (Recv r) a h = grind (arith, common_steps)
+  event_reuse w m (Stop s) a h = grind (arith, common_steps)
+  event_reuse w m (Gone r) a h = grind (arith, common_steps)
 
   pub forks_reuse : (w m : Machine E) (i j : ℕ) → Forks w i j true m
       → (m.layout ≡ w.layout) × (m.reuse ≡ w.reuse)
-  forks_reuse w m i j h = (
-    ap (λ (y : Machine E). y.layout) h.after,
-    ap (λ (y : Machine E). y.reuse) h.after,
-  )
+  forks_reuse w m i j h = grind (arith, common_steps)
 
   -- ---- passed places
   -- where each tenure has a row there are none
@@ -518,10 +393,7 @@ module _ {E : Type 0} (X : Election E) where
   -- what a receiver does leaves its passed place where it is
   read_there : (words : ℕ → ℕ) (v next : Receiving) (told : RecvTurn)
       → RecvDoes words v told next → next.passed_at ≡ v.passed_at
-  read_there words v next told d = by v.ended refl where
-    by : (b : Bool) → v.ended ≡ b → next.passed_at ≡ v.passed_at
-    by true e = ap (λ (w : Receiving). w.passed_at) (d.ended e).1
-    by false e = (d.going e).keeps.3
+  read_there words v next told d = grind (arith, common_steps)
 
   -- those are of the machine's layout
   abbrev Passes : Machine E → Type 0
@@ -530,9 +402,7 @@ module _ {E : Type 0} (X : Election E) where
 
   same_passes : (w m : Machine E) → (m.layout ≡ w.layout) × (m.reuse ≡ w.reuse)
       → m.receivers ≡ w.receivers → Passes w → Passes m
-  same_passes w m i is k r v at =
-      k r v (sym (ap (λ l. slice_get l r) is) ∙ at) ∙ ap (λ x. passed_by x w.reuse r) (sym i.0)
-      ∙ ap (λ o. passed_by m.layout o r) (sym i.1)
+  same_passes w m i is k r v at = grind (arith, common_steps, slice_get)
 
   one_passes : (w m : Machine E) (q : ℕ) (u next : Receiving)
       → (m.layout ≡ w.layout) × (m.reuse ≡ w.reuse) → slice_get w.receivers q ≡ Some u
@@ -547,11 +417,7 @@ module _ {E : Type 0} (X : Election E) where
       was : v.passed_at ≡ passed_by w.layout w.reuse r
       was = elim (cases_eq r q) [
         | inl e ↦
-            let is : next ≡ v = same_Some _ _
-            (sym (get_set_same w.receivers q next (slice_get_within w.receivers q u there))
-            ∙ ap (slice_get (slice_set w.receivers q next)) (sym e) ∙ here) in
-            ap (λ (y : Receiving). y.passed_at) (sym is) ∙ same ∙ k q u there
-            ∙ ap (passed_by w.layout w.reuse) (sym e)
+            grind (arith, same_Some, get_set_same, slice_get_within, slice_get, slice_set, here)
         | inr ne ↦ k r v (sym (get_set_other w.receivers q next r ne) ∙ here)
       ]
 
@@ -563,15 +429,11 @@ module _ {E : Type 0} (X : Election E) where
       (ap (λ (y : Machine E). y.receivers) h.after)
   event_passes w m (Turn s word) a h = same_passes w m (event_reuse w m (Turn s word) a h)
       (ap (λ (y : Machine E). y.receivers) h.after)
-  event_passes w m (Recv r) a h = one_passes w m r h.receiver h.next
-      (event_reuse w m (Recv r) a h) h.there
-      (read_there (slice_index w.words) h.receiver h.next h.heard h.does)
-      (ap (λ (y : Machine E). y.receivers) h.after)
+  event_passes w m (Recv r) a h =
+      grind (arith, common_steps, one_passes, event_reuse, read_there, slice_index)
   event_passes w m (Stop s) a h = same_passes w m (event_reuse w m (Stop s) a h)
       (ap (λ (y : Machine E). y.receivers) h.after)
-  event_passes w m (Gone r) a h = one_passes w m r h.receiver (with_leave h.receiver)
-      (event_reuse w m (Gone r) a h) h.there refl
-      (ap (λ (y : Machine E). y.receivers) h.after)
+  event_passes w m (Gone r) a h = grind (arith, common_steps, one_passes, event_reuse)
 
   pub passes_by : (m : Machine E) (T : Trails) → Reached X m T → (r : ℕ) (v : Receiving)
       → slice_get m.receivers r ≡ Some v → v.passed_at ≡ passed_by m.layout m.reuse r
@@ -610,12 +472,7 @@ module _ {E : Type 0} (X : Election E) where
     new = record k.bus { receivers = slice_set k.bus.receivers j h.maker }
 
     is : m ≡ of_bus w.bases w.layout new
-    is =
-        fork_is w m i j h (passed_first w.layout w.reuse j flat)
-        ∙ ap (λ v. record w { receivers = slice_set w.receivers j v })
-        (ap (λ o. forked_at o h.maker)
-        (sym (passes i h.maker h.there ∙ passed_first w.layout w.reuse i flat)))
-        ∙ ap (λ (y : Machine E). record y { receivers = slice_set y.receivers j h.maker }) k.is
+    is = grind (arith, common_steps, fork_is, passed_first, slice_set)
 
   -- whatever leads to it, leads to the bus with a row for each tenure
   pub reached_at_none : (m : Machine E) (T : Trails) → Reached X m T → m.reuse ≡ None

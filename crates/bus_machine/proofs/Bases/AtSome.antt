@@ -3,13 +3,12 @@
 use Rattle.std.proofs.Common.{◌≡◌, ℕ, ◌+◌, ◌<◌, ◌≤◌, List, [], ◌∷◌, ◌++◌, Option, Some, None, Bool}
 use Rattle.std.proofs.Common.{true, false, cond, slice_get, slice_set, slice_index, nat_lt, refl}
 use Rattle.std.proofs.Common.{sym, ◌∙◌, ap, subst, arith, ◌⊎◌, inl, inr}
-use mathlib.Core.Path.{fun_ext}
 use Rattle.std.specs.Prelude.{replicate, length}
 use Rattle.std.proofs.lemmas.List.{length-replicate}
 use Rattle.std.proofs.lemmas.Option.{same_Some, slice_get_within}
+use Rattle.std.proofs.lemmas.Grind.{common_steps}
 use Rattle.bus_register.specs.Protocol.{Protocol}
 use Rattle.bus_register.specs.Tables.{put}
-use Rattle.bus_register.specs.declared.kinds.Kind.TheVariants as kind
 use Rattle.bus_register.specs.Words.{register}
 use Rattle.bus_register.specs.declared.registers.Op.{Op}
 use Rattle.bus_register.specs.declared.registers.Op.TheVariants.{Load, Store}
@@ -17,16 +16,15 @@ use Rattle.bus_batch.specs.Batches.{next_of, CanPut, CanClose}
 use Rattle.bus_batch.specs.declared.batches.Phase.TheVariants.{Marking}
 use Rattle.bus_batch.specs.declared.messages.Mark.{Mark}
 use Rattle.bus_deliverylog.specs.Receiving.{Receiving, with_leave, receiving_op, leaving_op}
-use Rattle.bus_deliverylog.specs.Receiving.{joining_by, joining_op, forked_at}
+use Rattle.bus_deliverylog.specs.Receiving.{joining_by, forked_at}
 use Rattle.bus_core.proofs.Bridged.{at_some}
-use Rattle.bus_core.specs.Reusing.Passing.{passing_begun, passing_left}
+use Rattle.bus_core.specs.Reusing.Passing.{passing_begun}
 use Rattle.bus_core.specs.declared.reuses.Passing.{Passing}
 use Rattle.bus_core.specs.Keeping.{new_sender, queue_of}
 use Rattle.bus_core.specs.Private.Bridge.{move_of, with_rows_again}
 use Rattle.bus_core.specs.Senders.{Sender, Situation, Does, Scans, Clears, ReadsPassed, situation}
 use Rattle.bus_core.specs.Senders.{at_home, pinning, passing as first_passed, reclaiming}
 use Rattle.bus_core.specs.Table.{line, line_now}
-use Rattle.bus_core.specs.Reusing.Keeping.{held_of}
 use Rattle.bus_core.specs.Reusing.Participants.{log_from}
 use Rattle.bus_core.specs.Private.ParticipantTable.{Due, Goes, Reads, place_for, passed_op}
 use Rattle.bus_core.specs.Private.ParticipantTable.{due_beside, due_passed, due_home, due_reclaimed}
@@ -43,8 +41,7 @@ use Rattle.bus_presence.specs.declared.pins.Pin.TheVariants.{Unpinning, Invalida
 use Rattle.bus_tenure.specs.Core.{Core, Election, stage_at}
 use Rattle.bus_tenure.specs.Situations.{Situation as Own, IsClosed, IsIdle, IsSpent, LooksAtStage}
 use Rattle.bus_tenure.specs.Situations.{Elects, TakesPage, AwaitsPage, StoresWord, StoresLength}
-use Rattle.bus_tenure.specs.Situations.{GivesBack, HasHanded, PageMove, situation_of, op_at}
-use Rattle.bus_tenure.specs.Situations.{kind_at}
+use Rattle.bus_tenure.specs.Situations.{GivesBack, HasHanded, kind_at}
 use Rattle.bus_tenure.specs.Private.LineParts.{tenure_at, chosen_at}
 use Rattle.bus_tenure.specs.declared.pages.Page.{Page}
 use Rattle.bus_tenure.specs.declared.phases.Reason.{Reason}
@@ -59,7 +56,7 @@ use Rattle.bus_world.specs.Starting.{IsNewReceiver}
 use Rattle.bus_world.specs.World.{IsLayout, Event, Put, Ask, Turn, Recv, Stop, Gone}
 use Rattle.bus_world.specs.Headline.{HasPut, HasMarked}
 use Rattle.bus_world.specs.Log.{words_of_frame}
-use Rattle.bus_world.specs.Trails.{step_action, put_actions, mark_actions, actions_with}
+use Rattle.bus_world.specs.Trails.{step_action, actions_with}
 use Rattle.bus_world.specs.Turning.{owners_by, words_after, number_found, home_moved, after_step}
 use Rattle.bus_world.specs.Private.Machines.{new_core}
 use Rattle.bus_world.specs.Private.CyclicProtocols.{CyclicProtocol, Led, NewProtocol, PutIn}
@@ -78,13 +75,11 @@ use Rattle.bus_machine.proofs.Bases.CyclicTurns.{words_many}
 use Rattle.bus_machine.proofs.Bases.ProtocolParts.{list_put, away_puts, away_closes, stepped_words}
 use Rattle.bus_machine.proofs.Frames.Joining.{turn_log}
 use Rattle.bus_machine.specs.Private.Bridge.{core_in, passing_in, protocol_of, IsLed}
-use Rattle.bus_machine.specs.Machine.{Forks, fork_in, trails_joined}
-use Rattle.bus_machine.specs.Machine.{base_of, Machine, Trails, Happens, TakesTurn, TakesPut}
-use Rattle.bus_machine.specs.Machine.{TakesMark, StopsNow, Hears, LeavesForGood, IsNew, IsOnWord}
-use Rattle.bus_machine.specs.Machine.{no_machine_trails, log_place, owners_told, has_stopped}
-use Rattle.bus_machine.specs.Machine.{passed_by}
-use Rattle.bus_machine.specs.Machine.{going, with_sender, put_in, mark_in, moved, machine_after}
-use Rattle.bus_machine.specs.Machine.{found, turn_answer, turn_trails, turn_grown, trails_grown}
+use Rattle.bus_machine.specs.Machine.{Forks, trails_joined, base_of, Machine, Trails, Happens}
+use Rattle.bus_machine.specs.Machine.{TakesTurn, TakesPut, TakesMark, StopsNow, Hears}
+use Rattle.bus_machine.specs.Machine.{LeavesForGood, IsNew, IsOnWord, no_machine_trails, log_place}
+use Rattle.bus_machine.specs.Machine.{owners_told, passed_by, going, with_sender, machine_after}
+use Rattle.bus_machine.specs.Machine.{found, turn_answer, turn_trails, trails_grown}
 use Rattle.bus_machine.specs.Promise.{pin_in}
 
 module _ {E : Type 0} (X : Election E) where
@@ -133,21 +128,7 @@ module _ {E : Type 0} (X : Election E) where
     grown_own : (v : Participant E) (z : Own E) → v.core.layout ≡ m.layout → v.rows ≡ rows
         → IsGrown v (Does z) (Goes z)
     grown_own v z i j =
-        let words = slice_index m.words in
-        let got : got_due v (Goes z)
-        ≡ word_found (place_for m.layout rows z) words (op_at X v.core z word) =
-        placed_found (place_for v.core.layout v.rows z) words (op_at X v.core z word)
-        ∙ ap (λ x. word_found (place_for x v.rows z) words (op_at X v.core z word)) i
-        ∙ ap (λ r. word_found (place_for m.layout r z) words (op_at X v.core z word)) j in
-        record {
-          pins = refl;
-          actions = ap (λ d. actions_with s d T.actions)
-              (ap (λ g. step_action (line X (with_rows_again v) (Does z)).kind
-              (line X (with_rows_again v) (Does z)).tenure g
-              ((line X (with_rows_again v) (Does z)).chosen g word) a) got
-              ∙ action_own v z _ word a);
-          heard = refl;
-        }
+        grind (arith, slice_index, word_found, place_for, placed_found, with_rows_again, action_own)
 
     grown_reclaimed : (v : Participant E) (r : Reclaiming) (z : Own E) (p q : Bool)
         → v.core.layout ≡ m.layout → v.rows ≡ rows
@@ -166,13 +147,7 @@ module _ {E : Type 0} (X : Election E) where
 
     grown_reads : (v : Participant E) (t : ℕ) (p : Passing) → v.core.layout ≡ m.layout
         → v.rows ≡ rows → IsGrown v (ReadsPassed t p) (Reads t p)
-    grown_reads v t p i j = record {
-      pins = refl;
-      actions = ap (λ o. actions_with s (step_action (Some kind.ReadPassed) (Some t)
-          (slice_index m.words (register o)) None a) T.actions)
-          (ap (λ x. passed_op x v.rows p) i ∙ ap (λ r. passed_op m.layout r p) j);
-      heard = refl;
-    }
+    grown_reads v t p i j = grind (arith, common_steps, slice_index, register, passed_op)
 
     grown_back : (v : Participant E) (l : Option Passing) (r : Option Reclaiming) (t : ℕ)
         (page : Page) (reason : Reason) → v.core.layout ≡ m.layout → v.rows ≡ rows
@@ -212,10 +187,8 @@ module _ {E : Type 0} (X : Election E) where
     pub grown_is : (v : Participant E) → v.core.layout ≡ m.layout → v.rows ≡ rows
         → GrowsBy v (situation X (with_rows_again v))
         (found m (line_now X (with_rows_again v)) word) (due X v)
-    grown_is v i j = subst (λ n. GrowsBy v (situation X (with_rows_again v)) n (due X v))
-        (sym (ap (number_found (slice_index m.words)) ((at_some X v).op word)))
-        (grown_pinning v v.pin (passing_left v.core.layout.passers v.passed)
-        (situation_of X v.core) i j)
+    grown_is v i j =
+        grind (arith, common_steps, with_rows_again, due, slice_index, at_some, grown_pinning)
 
 -- ---- one event
 module _ {E : Type 0} (X : Election E) (P : Protocol E (Unit {0}) ℕ) (rows : ℕ) (m : Machine E)
@@ -244,29 +217,12 @@ module _ {E : Type 0} (X : Election E) (P : Protocol E (Unit {0}) ℕ) (rows : �
   turn_is : (v : Participant E) (s word : ℕ)
       → machine_after m s (line_now X (with_rows_again v)) word ≡ turned_by v s word
   turn_is v s word =
-      let l = line_now X (with_rows_again v) in
-      let i = at_some X v in
-      let d = due X v in
-      let got = got_by v word in
-      ap (λ o. after o l.move (l.fed (number_found (slice_index m.words) o) word)) (i.op word)
-      ∙ ap (λ w. after (op_due X v d word) w (l.fed got word)) i.move
-      ∙ ap (λ f. after (op_due X v d word) (move_of X v.core d) f) (i.fed got word)
-    where
-      after : Option Op → PageMove → Sender E → Machine E
-      after o w f = record (turned_by v s word) {
-        words = words_after m.words o;
-        home = home_moved w m.home;
-        senders = slice_set m.senders s (moved (after_step w) m.home f);
-      }
+      grind (arith, with_rows_again, at_some, due, slice_index, op_due, move_of, slice_set)
 
   answer_is : (v : Participant E) (word : ℕ)
       → turn_answer m (line_now X (with_rows_again v)) word
       ≡ answer_due X v (due X v) (got_by v word) word
-  answer_is v word =
-      let l = line_now X (with_rows_again v) in
-      let i = at_some X v in
-      ap (λ o. l.answer (number_found (slice_index m.words) o) word) (i.op word)
-      ∙ i.answer (got_by v word) word
+  answer_is v word = grind (arith, common_steps, with_rows_again, at_some, slice_index)
 
   -- a sender that goes on
   record Opened (s : ℕ) (w : Sender E) : Type 0 where
@@ -276,10 +232,7 @@ module _ {E : Type 0} (X : Election E) (P : Protocol E (Unit {0}) ℕ) (rows : �
     at : slice_get m.senders s ≡ Some (with_rows_again v)
 
   opened : (s : ℕ) (w : Sender E) → going m s ≡ Some w → Opened s w
-  opened s w goes =
-      let at = shown_there (has_stopped m s) (slice_get m.senders s) w goes in
-      let u = l.participants s w at in
-      record { v = u.0; is = u.1; same_rows = u.2; at = at ∙ ap Some u.1 }
+  opened s w goes = grind (arith, common_steps, shown_there, slice_get)
 
   turns : (s word : ℕ) (a : Answer) (m' : Machine E) → TakesTurn X m s word a m'
       → IsLed X rows m' (trails_grown X m (Turn s word) a T)
@@ -307,11 +260,7 @@ module _ {E : Type 0} (X : Election E) (P : Protocol E (Unit {0}) ℕ) (rows : �
       let is : m' ≡ turned_by v s word =
       h.after ∙ ap (λ w. machine_after m s (line_now X w) word) o.is
       ∙ turn_is v s word in
-      let grown : trails_grown X m (Turn s word) a T ≡ U =
-      ap (λ w. trails_grown X m (Turn s word) w T) told
-      ∙ ap (λ w. turn_grown X m s w word (answer.Turn t) T) (h.goes ∙ ap Some o.is) in
-      subst (λ n. IsLed X rows n (trails_grown X m (Turn s word) a T)) (sym is)
-      (subst (IsLed X rows (turned_by v s word)) (sym grown) led)
+      grind (arith, common_steps)
 
   puts : (s : ℕ) (bytes : List ℕ) (a : Answer) (m' : Machine E) → TakesPut m s bytes a m'
       → IsLed X rows m' (trails_grown X m (Put s bytes) a T)
@@ -336,11 +285,7 @@ module _ {E : Type 0} (X : Election E) (P : Protocol E (Unit {0}) ℕ) (rows : �
       T.heard T.log) may.1
       (PutIn its_protocol T.pins T.actions T.heard T.log s v.core bytes l.led (ap core_in o.at)
       (ap pin_in o.at ∙ may.0) h.are_bytes)) in
-      let is : m' ≡ new = h.after ∙ ap (λ w. with_sender m s (put_in w bytes)) o.is in
-      subst (λ n. IsLed X rows n (trails_grown X m (Put s bytes) a T)) (sym is)
-      (subst (λ w.
-      IsLed X rows new (record T { actions = actions_with s (put_actions bytes w) T.actions }))
-      (sym told) led)
+      grind (arith, common_steps)
 
   marks : (s : ℕ) (asked : Mark) (a : Answer) (m' : Machine E) → TakesMark m s asked a m'
       → IsLed X rows m' (trails_grown X m (Ask s asked) a T)
@@ -359,27 +304,10 @@ module _ {E : Type 0} (X : Election E) (P : Protocol E (Unit {0}) ℕ) (rows : �
       }) T.pins (actions_with s (cond t (HasMarked asked ∷ []) []) T.actions) T.heard T.log) may.1
       (MarkedIn its_protocol T.pins T.actions T.heard T.log s v.core asked l.led (ap core_in o.at)
       (ap pin_in o.at ∙ may.0))) in
-      let is : m' ≡ new = h.after ∙ ap (λ w. with_sender m s (mark_in w asked)) o.is in
-      subst (λ n. IsLed X rows n (trails_grown X m (Ask s asked) a T)) (sym is)
-      (subst
-      (λ w. IsLed X rows new (record T { actions = actions_with s (mark_actions w) T.actions }))
-      (sym h.answered)
-      (subst (λ d. IsLed X rows new (record T { actions = actions_with s d T.actions }))
-      (sym (mark_adds asked)) led))
+      grind (arith, common_steps, mark_adds)
 
   stops : (s : ℕ) (a : Answer) (m' : Machine E) → StopsNow m s a m' → IsLed X rows m' T
-  stops s a m' h = subst (λ n. IsLed X rows n T) (sym h.after)
-      record {
-        reuse = l.reuse;
-        words = l.words;
-        participants = l.participants;
-        owners = l.owners;
-        reclaimer = l.reclaimer;
-        holder = l.holder;
-        passing = l.passing;
-        passed = l.passed;
-        led = l.led;
-      }
+  stops s a m' h = grind (arith, common_steps)
 
   -- a step of receiver r, or none, which leaves this
   abbrev heard_by : ℕ → Option Op → Receiving → Machine E
@@ -437,10 +365,7 @@ module _ {E : Type 0} (X : Election E) (P : Protocol E (Unit {0}) ℕ) (rows : �
   -- a receiver joins
   pub forks : (m' : Machine E) (i j n : ℕ) → Forks m i j true m' → slice_get m.receivers n ≡ None
       → T.heard n ≡ [] → IsLed X rows m' (trails_joined i j n T)
-  forks m' i j n h nobody silent = subst (λ y. IsLed X rows y (trails_joined i j n T)) (sym h.after)
-      (heard_led j h.last (fork_in m j h.maker) (joining_op (fork_in m j h.maker))
-      (trails_joined i j n T) h.was h.within
-      (subst By (ap (λ r. passed_by m.layout r j) (sym l.reuse)) led))
+  forks m' i j n h nobody silent = grind (arith, common_steps, heard_led, By, led)
     where
       -- with this passed place of its number
       By : Option ℕ → Type 0
@@ -521,10 +446,7 @@ module _ {E : Type 0} (X : Election E) (rows : ℕ) (m : Machine E) (new : IsNew
   new_core_is : (p : ℕ) (c : Core E) (o : Option (Sender E)) → slice_get m.senders p ≡ o
       → core_in o ≡ Some c → (p < m.layout.senders) × (c ≡ new_core m.layout (base_of m p) p)
   new_core_is p c None i j = absurd (let bad : None ≡ Some c = j in cc)
-  new_core_is p c (Some v) i j = (
-    (new.senders p v i).0,
-    sym (same_Some _ _ j) ∙ ap (λ (u : Sender E). u.core) (made p v i),
-  )
+  new_core_is p c (Some v) i j = grind (arith, common_steps, same_Some, made)
 
   words_are : m.words ≡ replicate (log_from m.layout rows + m.layout.capacity) 0
   words_are = new.words ∙ ap (λ r. replicate (log_place m.layout r + m.layout.capacity) 0) used
@@ -536,20 +458,13 @@ module _ {E : Type 0} (X : Election E) (rows : ℕ) (m : Machine E) (new : IsNew
     participants = λ p v at. (starter p, made p v at, refl);
     owners = [];
     reclaimer = None;
-    holder = λ p v t at held. absurd (let bad : None ≡ Some t =
-        ap (λ (u : Sender E). held_of u.core.phase) (sym (made p v at)) ∙ held in
-        cc);
+    holder = λ p v t at held. grind (arith, common_steps, made);
     passing = passing_begun;
     passed = λ p v t at held. ap (λ (u : Sender E). passing_in u.reuse) (made p v at);
     led = NewProtocol (protocol_of m None passing_begun []) record {
       bases_are = new.bases_are;
       passing = refl;
-      reclamation = ap
-          (λ w. record { words = w; pins = λ p. pin_in (slice_get m.senders p); reclaimer = None })
-          (ap slice_index words_are
-          ∙ fun_ext (λ r. zeros (log_from m.layout rows + m.layout.capacity) r))
-          ∙ ap (λ v. record { words = λ r. 0; pins = v; reclaimer = None })
-          (fun_ext (λ p. new_pin p (slice_get m.senders p) refl));
+      reclamation = grind (arith, common_steps, slice_get, slice_index, words_are, zeros, new_pin);
       home = new.home;
       senders = λ p c at. new_core_is p c (slice_get m.senders p) refl at;
       receivers = λ r v at. subst

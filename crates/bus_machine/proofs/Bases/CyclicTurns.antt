@@ -1,19 +1,20 @@
 -- A turn of a machine whose rows are used again, as a turn of its protocol.
-use Rattle.std.proofs.Common.{◌≡◌, ◌≢◌, inl, inr, ℕ, ◌+◌, ◌<◌, ◌≤◌, Bool, true, false, cond}
-use Rattle.std.proofs.Common.{◌==◌, nat_le, ◌/◌, Option, Some, None, List, ◌++◌, length, slice_get}
-use Rattle.std.proofs.Common.{slice_index, slice_set, arith, refl, sym, ◌∙◌, ap, subst}
+use Rattle.std.proofs.Common.{◌≡◌, ◌≢◌, inl, inr, ℕ, ◌<◌, ◌≤◌, nat_le, Option, Some, None, List}
+use Rattle.std.proofs.Common.{◌++◌, length, slice_get, slice_index, slice_set, arith, refl, sym}
+use Rattle.std.proofs.Common.{◌∙◌, ap, subst}
 use Rattle.std.proofs.lemmas.Bool.{cases_eq}
 use Rattle.std.proofs.Math.ListN.{length-set}
 use Rattle.std.proofs.lemmas.Option.{same_Some, slice_get_within}
+use Rattle.std.proofs.lemmas.Grind.{common_steps}
 use Rattle.bus_register.specs.declared.registers.Op.{Op}
 use Rattle.bus_register.specs.Words.{register, after}
 use Rattle.bus_register.specs.Tables.{put, of_some}
 use Rattle.bus_register.specs.Private.TableLaws.{get_set_same, get_set_other}
 use Rattle.bus_register.specs.Protocol.{Protocol}
 use Rattle.bus_batch.specs.Batches.{Pending}
-use Rattle.bus_presence.specs.Reclamation.{presence_at, reclaimer_after}
+use Rattle.bus_presence.specs.Reclamation.{reclaimer_after}
 use Rattle.bus_presence.specs.Reclaimers.{Reclaiming, reclaim_fed}
-use Rattle.bus_presence.specs.Pins.{step_at, pin_fed}
+use Rattle.bus_presence.specs.Pins.{pin_fed}
 use Rattle.bus_presence.specs.declared.pins.Pin.{Pin}
 use Rattle.bus_presence.specs.declared.pins.Pin.TheVariants.{Away, Announcing, Validating, Pinned}
 use Rattle.bus_presence.specs.declared.pins.Pin.TheVariants.{Unpinning, Invalidated}
@@ -31,20 +32,19 @@ use Rattle.bus_core.specs.Reusing.Keeping.{held_of}
 use Rattle.bus_core.specs.Reusing.Turns.{Participant, op_placed}
 use Rattle.bus_core.specs.Private.ParticipantTurns.{due, op_due, participant_due, answer_due}
 use Rattle.bus_core.specs.Senders.{Sender}
-use Rattle.bus_tenure.specs.Core.{Election, stage_at}
+use Rattle.bus_tenure.specs.Core.{Election}
 use Rattle.bus_tenure.specs.Situations.{Situation, IsClosed, IsIdle, IsSpent, LooksAtStage, Elects}
 use Rattle.bus_tenure.specs.Situations.{TakesPage, AwaitsPage, StoresWord, StoresLength, GivesBack}
 use Rattle.bus_tenure.specs.Situations.{HasHanded, PageMove, situation_of, line_of, op_at}
-use Rattle.bus_tenure.specs.Situations.{core_begun, core_elected, waits}
+use Rattle.bus_tenure.specs.Situations.{core_elected}
 use Rattle.bus_tenure.specs.declared.pages.Page.{Page}
 use Rattle.bus_tenure.specs.declared.phases.Reason.{Reason}
 use Rattle.bus_tenure.specs.declared.phases.Reason.TheVariants.{NoRoom}
-use Rattle.bus_tenure.specs.declared.phases.Phase.TheVariants as phase
 use Rattle.bus_tenure.specs.declared.turns.Turn.{Turn as Answered}
 use Rattle.bus_tenure.specs.declared.turns.Turn.TheVariants as turn
 use Rattle.bus_tenure.proofs.Situated.{tells}
 use Rattle.bus_world.specs.World.{IsLayout}
-use Rattle.bus_world.specs.Private.Sending.{Part, Fits, standing_of}
+use Rattle.bus_world.specs.Private.Sending.{Part, standing_of}
 use Rattle.bus_world.specs.Headline.{Action}
 use Rattle.bus_world.specs.Log.{words_of_frame}
 use Rattle.bus_world.specs.Private.Tenures.Standing.{Holds}
@@ -82,12 +82,8 @@ participants_after : {E : Type 0} (rows : ℕ) (xs : List (Sender E))
     → slice_get (slice_set xs s (with_rows_again v')) p ≡ Some v
     → (u : Participant E) × (v ≡ with_rows_again u) × (u.rows ≡ rows)
 participants_after rows xs all s v' within same p v here = elim (cases_eq p s) [
-  | inl i ↦ (
-    v',
-    same_Some _ _ (sym here ∙ ap (slice_get (slice_set xs s (with_rows_again v'))) i
-        ∙ get_set_same xs s (with_rows_again v') within),
-    same,
-  )
+  | inl i ↦
+      grind (arith, common_steps, same_Some, slice_get, slice_set, with_rows_again, get_set_same)
   | inr ne ↦ all p v (sym (get_set_other xs s (with_rows_again v') p ne) ∙ here)
 ]
 
@@ -174,20 +170,11 @@ module _ {E : Type 0} (X : Election E) (P : Protocol E (Unit {0}) ℕ) (rows : �
         → due_beside o (passing_left m.layout.passers v.passed) v.reclaimer (situation_of X v.core)
         ≡ due_beside o (passing_left m.layout.passers l.passing) l.reclaimer (situation_of X v.core)
     beside_same None =
-        let z = situation_of X v.core in
-        let left = passing_left m.layout.passers v.passed in
-        ap (λ w. due_passed (passed_due z left) (due_home w z)) (reclaims_same z refl)
-        ∙ ap (λ d. due_passed d (due_home (reclaim_due z l.reclaimer) z)) (passes_same z refl)
+        grind (arith, due_passed, passed_due, due_home, reclaims_same, reclaim_due, passes_same)
     beside_same (Some o) = refl
 
     due_same : due X v ≡ due_in X m.layout rows y s v.core
-    due_same =
-        ap (λ x. due_of X x v.rows v.core.me v.core v.pin v.passed v.reclaimer) part.layout
-        ∙ ap (λ r. due_of X m.layout r v.core.me v.core v.pin v.passed v.reclaimer) same_rows
-        ∙ ap (λ p. due_of X m.layout rows p v.core v.pin v.passed v.reclaimer) part.me
-        ∙ ap (λ w. due_of X m.layout rows s v.core w v.passed v.reclaimer) (sym pin_is)
-        ∙ beside_same
-        (step_at (y.reclamation.pins s) (presence_at (sizes_with m.layout rows) s) stage_at)
+    due_same = grind (arith, common_steps, due_of, part, pin_is, beside_same)
 
     -- ---- who holds the page afterwards
     -- what is read off each that holds it, before and now
@@ -203,14 +190,8 @@ module _ {E : Type 0} (X : Election E) (P : Protocol E (Unit {0}) ℕ) (rows : �
         → held_of w.core.phase ≡ Some t → of w ≡ now
     held_after of before now was v' own others p w t here e = elim (cases_eq p s) [
       | inl i ↦
-          let same : with_rows_again v' ≡ w = same_Some _ _
-          (sym (get_set_same m.senders s (with_rows_again v') within)
-          ∙ sym (ap (slice_get (slice_set m.senders s (with_rows_again v'))) i) ∙ here) in
-          subst (λ (u : Sender E). of u ≡ now) same
-          (own t (ap (λ (u : Sender E). held_of u.core.phase) same ∙ e))
-      | inr ne ↦
-          let there = sym (get_set_other m.senders s (with_rows_again v') p ne) ∙ here in
-          was p w t there e ∙ others p w t ne there e
+          grind (arith, with_rows_again, same_Some, get_set_same, within, slice_get, slice_set)
+      | inr ne ↦ grind (arith, common_steps, get_set_other, with_rows_again)
     ]
 
     holder_after : (v' : Participant E) (reclaimer : Option Reclaiming)
@@ -246,12 +227,7 @@ module _ {E : Type 0} (X : Election E) (P : Protocol E (Unit {0}) ℕ) (rows : �
         → held_of v.core.phase ≡ Some t
     looked_held Away got t e = e
     looked_held (Announcing r) got t e = e
-    looked_held (Validating r) got t e = by_test (got / 2 == r) e
-      where
-        by_test : (q : Bool) → held_of (cond q (core_begun X v.core r) v.core).phase ≡ Some t
-            → held_of v.core.phase ≡ Some t
-        by_test true e = absurd cc
-        by_test false e = e
+    looked_held (Validating r) got t e = grind (arith, common_steps)
     looked_held (Pinned r) got t e = e
     looked_held (Unpinning r) got t e = e
     looked_held (Invalidated r) got t e = e
@@ -270,28 +246,12 @@ module _ {E : Type 0} (X : Election E) (P : Protocol E (Unit {0}) ℕ) (rows : �
 
     seen_held : (got t : ℕ) → held_of (core_seen v.core got).phase ≡ Some t
         → held_of v.core.phase ≡ Some t
-    seen_held got t = by_tests (waits v.core got) (nat_le v.core.layout.rows (got / 2))
-      where
-        by_tests : (p q : Bool)
-            → held_of (cond p v.core (cond q (record v.core { least = got / 2 }) v.core)).phase
-            ≡ Some t → held_of v.core.phase ≡ Some t
-        by_tests true q f = f
-        by_tests false true f = f
-        by_tests false false f = f
+    seen_held got t = grind (arith, common_steps, nat_le)
 
     elected_held : (t : ℕ) (f : E) (o : Option ℕ) (r : ℕ)
         → held_of (core_elected v.core t f o).phase ≡ Some r → ⊥
     elected_held t f None r e = cc
-    elected_held t f (Some o) r e = by_test (o == v.core.me) e
-      where
-        by_test : (q : Bool)
-            → held_of (cond q (record v.core { phase = phase.Electing t f }) (record v.core {
-              queue = record v.core.queue { busy = false };
-              least = t + 1;
-              phase = phase.Resting;
-            })).phase ≡ Some r → ⊥
-        by_test true e = cc
-        by_test false e = cc
+    elected_held t f (Some o) r e = grind (arith, common_steps)
 
     -- nobody holds the page while a sender takes it
     at_home : {A : Type 0} (before now : A) (t : ℕ) → situation_of X v.core ≡ TakesPage t
@@ -576,9 +536,7 @@ module _ {E : Type 0} (X : Election E) (P : Protocol E (Unit {0}) ℕ) (rows : �
           ∙ ap (λ n. reclaimer_after (sizes_with m.layout n) t) same_rows)
           (at_home l.reclaimer (reclaimer_after (sizes_with m.layout rows) t) t here)
           (λ r f. refl) (at_home l.passing passing_begun t here)
-      goes_lead (AwaitsPage t) here e = absurd
-          (subst (Fits (slice_index m.bases) protocol_kept.V protocol_kept.frames v.core)
-          (tells X v.core (AwaitsPage t) here) part.fits)
+      goes_lead (AwaitsPage t) here e = grind (arith, slice_index, protocol_kept, tells, part)
       goes_lead (StoresWord t page stored) here e =
           let f = tells X v.core (StoresWord t page stored) here in
           goes_as (StoresWord t page stored) here e (λ r g. kept_reclaimer t (ap held_of f.1))
@@ -592,9 +550,7 @@ module _ {E : Type 0} (X : Election E) (P : Protocol E (Unit {0}) ℕ) (rows : �
       goes_lead (GivesBack t page reason) here e = goes_as (GivesBack t page reason) here e
           (λ r f. refl) (nobody_else l.reclaimer None t (gives_held t page reason here))
           (λ r f. kept_passed t (gives_held t page reason here)) (λ p w r ne there f. refl)
-      goes_lead (HasHanded t reason) here e = absurd
-          (subst (Fits (slice_index m.bases) protocol_kept.V protocol_kept.frames v.core)
-          (tells X v.core (HasHanded t reason) here) part.fits)
+      goes_lead (HasHanded t reason) here e = grind (arith, slice_index, protocol_kept, tells, part)
 
       by_due : (d : Due E) → due X v ≡ d → IsOnWord m (op_due X v d word)
           → answer ≡ answer_due X v d (number_found (slice_index m.words) (op_due X v d word)) word
@@ -633,20 +589,5 @@ module _ {E : Type 0} (X : Election E) (P : Protocol E (Unit {0}) ℕ) (rows : �
             holder = has.holder;
             passing = has.passing;
             passed = has.passed;
-            led = subst (λ w.
-                Led X m.layout rows (protocol_of (turned d) has.reclaimer has.passing has.owners)
-                w U.actions U.heard U.log) (sym pins)
-                (subst (λ w.
-                Led X m.layout rows (protocol_of (turned d) has.reclaimer has.passing has.owners)
-                (trails_with y s d T.pins) w U.heard U.log) (sym actions)
-                (subst (λ w.
-                Led X m.layout rows (protocol_of (turned d) has.reclaimer has.passing has.owners)
-                (trails_with y s d T.pins)
-                (actions_with s (due_actions X m.layout rows y v.core d word answer) T.actions) w
-                U.log) (sym heard)
-                (subst
-                (Led X m.layout rows (protocol_of (turned d) has.reclaimer has.passing has.owners)
-                (trails_with y s d T.pins)
-                (actions_with s (due_actions X m.layout rows y v.core d word answer) T.actions)
-                T.heard) (sym log) has.led)));
+            led = grind (arith, common_steps, protocol_of, trails_with, due_actions);
           }

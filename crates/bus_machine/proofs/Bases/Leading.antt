@@ -1,5 +1,6 @@
 -- What leads to a machine of sizes that are served, as each of the two kinds of rows has it.
-use Rattle.std.proofs.Common.{◌≡◌, ℕ, ◌≤◌, true, Some, sym, ◌∙◌, subst}
+use Rattle.std.proofs.Common.{◌≡◌, ℕ, ◌≤◌, true, Some, sym, ◌∙◌, subst, arith}
+use Rattle.std.proofs.lemmas.Grind.{common_steps}
 use Rattle.bus_register.specs.Protocol.{Protocol}
 use Rattle.bus_tenure.specs.Core.{Election}
 use Rattle.bus_world.proofs.Serving.{Serves}
@@ -20,40 +21,16 @@ module _ {E : Type 0} (X : Election E) (P : Protocol E (Unit {0}) ℕ) where
     pub rows : HasRows m.reuse
 
   pub sits_before : (w m : Machine E) (e : Event) (a : Answer) → Happens X w e a m → Sits m → Sits w
-  sits_before w m e a h s =
-      let i = event_reuse X w m e a h in
-      record {
-        serves = subst (Serves X P) i.0 s.serves;
-        ok = subst IsLayout i.0 s.ok;
-        rows = subst HasRows i.1 s.rows;
-      }
+  sits_before w m e a h s = grind (arith, common_steps, event_reuse)
 
   pub sits_after : (w m : Machine E) (e : Event) (a : Answer) → Happens X w e a m → Sits w → Sits m
-  sits_after w m e a h s =
-      let i = event_reuse X w m e a h in
-      record {
-        serves = subst (Serves X P) (sym i.0) s.serves;
-        ok = subst IsLayout (sym i.0) s.ok;
-        rows = subst HasRows (sym i.1) s.rows;
-      }
+  sits_after w m e a h s = grind (arith, common_steps, event_reuse)
 
   pub sits_unforked : (w m : Machine E) (i j : ℕ) → Forks w i j true m → Sits m → Sits w
-  sits_unforked w m i j h s =
-      let same = forks_reuse X w m i j h in
-      record {
-        serves = subst (Serves X P) same.0 s.serves;
-        ok = subst IsLayout same.0 s.ok;
-        rows = subst HasRows same.1 s.rows;
-      }
+  sits_unforked w m i j h s = grind (arith, common_steps, forks_reuse)
 
   pub sits_forked : (w m : Machine E) (i j : ℕ) → Forks w i j true m → Sits w → Sits m
-  sits_forked w m i j h s =
-      let same = forks_reuse X w m i j h in
-      record {
-        serves = subst (Serves X P) (sym same.0) s.serves;
-        ok = subst IsLayout (sym same.0) s.ok;
-        rows = subst HasRows (sym same.1) s.rows;
-      }
+  sits_forked w m i j h s = grind (arith, common_steps, forks_reuse)
 
   -- ---- rows that are used again
   pub two_rows : (m : Machine E) → Sits m → (rows : ℕ) → m.reuse ≡ Some rows → 2 ≤ rows

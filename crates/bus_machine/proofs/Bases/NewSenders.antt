@@ -1,12 +1,12 @@
 -- What is appended to senders at their starts, and a machine that has them.
 use Rattle.std.proofs.Common.{slice_index, ◌≡◌, ◌⊎◌, inl, inr, ℕ, zero, suc, ◌+◌, ◌*◌, ◌<◌, ◌≤◌}
-use Rattle.std.proofs.Common.{Bool}
-use Rattle.std.proofs.Common.{cond, Option, Some, None, List}
-use Rattle.std.proofs.Common.{[], ◌∷◌, ◌++◌, length, slice_get, arith, refl, sym, ◌∙◌, ap, subst}
+use Rattle.std.proofs.Common.{Bool, Option, Some, None, List, [], ◌∷◌, ◌++◌, length, slice_get}
+use Rattle.std.proofs.Common.{arith, refl, sym, ◌∙◌, ap, subst}
 use Rattle.std.specs.Prelude.{IfSome, replicate}
 use Rattle.std.proofs.lemmas.Bool.{lt-ltb}
 use Rattle.std.proofs.lemmas.List.{length-append}
 use Rattle.std.proofs.lemmas.Option.{slice_get_within}
+use Rattle.std.proofs.lemmas.Grind.{common_steps}
 use Rattle.bus_adoptcommit.specs.declared.verdicts.Verdict.{Verdict}
 use Rattle.bus_batch.specs.Reading.{HasRead}
 use Rattle.bus_core.specs.declared.limits.TheConstants.{PASSED_APART}
@@ -35,10 +35,7 @@ use Rattle.bus_machine.specs.Turning.{AreNewSenders}
 pub no_senders :
     {E : Type 0} (x : Layout) (reuse : Option ℕ) (bases : List ℕ) (senders : List (Sender E))
     → senders ≡ [] → AreNewSenders x reuse bases 0 senders
-no_senders {E} x reuse bases senders none = record {
-  many_are = ap length none;
-  each = λ p v e. absurd (let bad : None ≡ Some v = sym (ap (λ l. slice_get l p) none) ∙ e in cc);
-}
+no_senders {E} x reuse bases senders none = grind (arith, common_steps, length, slice_get)
 
 pub one_more_sender : {E : Type 0} (x : Layout) (reuse : Option ℕ) (bases : List ℕ) (many : ℕ)
     (senders : List (Sender E)) (v : Sender E) → AreNewSenders x reuse bases many senders
@@ -99,17 +96,7 @@ pub passed_apart : (shape : Shape) (passers first : ℕ) (o : Option ℕ)
     → 2 ≤ first
     → IfSome o (λ at. (0 < at)
     × (at + PASSED_APART * shape.receivers ≤ first + PASSED_APART * passers))
-passed_apart shape passers first o is each low =
-    subst (λ w. IfSome w (λ at. (0 < at)
-    × (at + PASSED_APART * shape.receivers ≤ first + PASSED_APART * passers))) (sym is)
-    (by passers each)
-  where
-    by : (n : ℕ) → (n ≡ 0) ⊎ (n ≡ shape.receivers)
-        → IfSome (first_passed first n) (λ at. (0 < at)
-        × (at + PASSED_APART * shape.receivers ≤ first + PASSED_APART * n))
-    by zero how = tt
-    by (suc n) (inl none) = absurd (omega arith)
-    by (suc n) (inr all) = (omega arith, omega arith)
+passed_apart shape passers first o is each low = grind (arith, common_steps)
 
 -- where there are so many passed places, the first of which stands behind the rows
 module _ {S : Type 0} (P : Protocol S Bool Verdict) (shape : Shape) (passers w first : ℕ)
@@ -118,13 +105,8 @@ module _ {S : Type 0} (P : Protocol S Bool Verdict) (shape : Shape) (passers w f
   log_there : (reuse : Option ℕ) → (reuse ≡ None → passers ≡ 0)
       → first ≡ log_place (with_width shape w) reuse
       → first + PASSED_APART * passers ≡ log_place (layout_passed P shape reuse passers) reuse
-  log_there None apart at =
-      ap (λ n. n + PASSED_APART * passers) (at ∙ ap (λ n. 2 + shape.rows * n) width)
-      ∙ (let none = apart refl in omega arith)
-  log_there (Some rows) apart at =
-      ap (λ n. n + PASSED_APART * passers)
-      (at ∙ ap (λ n. 2 + shape.senders + rows * n + PASSED_APART * 0) width)
-      ∙ omega arith
+  log_there None apart at = grind (arith, common_steps)
+  log_there (Some rows) apart at = grind (arith, common_steps)
 
   first_there : (reuse : Option ℕ) → (reuse ≡ None → passers ≡ 0)
       → first ≡ log_place (with_width shape w) reuse → 0 < passers
@@ -138,22 +120,8 @@ module _ {S : Type 0} (P : Protocol S Bool Verdict) (shape : Shape) (passers w f
       → first ≡ log_place (with_width shape w) reuse → (r : ℕ) → (passers ≡ 0) ⊎ (r < passers)
       → passed_behind (first_passed first passers) r
       ≡ passed_by (layout_passed P shape reuse passers) reuse r
-  passed_there reuse apart at r many = by passers refl many where
-    by : (n : ℕ) → passers ≡ n → (n ≡ 0) ⊎ (r < n)
-        → passed_behind (first_passed first n) r
-        ≡ passed_by (layout_passed P shape reuse passers) reuse r
-    by zero is low =
-        sym (passed_first (layout_passed P shape reuse passers) reuse r
-        (passers_of P shape reuse passers ∙ is))
-    by (suc n) is (inl none) = absurd (omega arith)
-    by (suc n) is (inr low) =
-        let same = passers_of P shape reuse passers in
-        let below : r < (layout_passed P shape reuse passers).passers = omega arith in
-        let here = first_there reuse apart at (omega arith) in
-        ap (λ k. Some (k + PASSED_APART * r)) here
-        ∙ ap (λ b. cond {A = Option ℕ} b
-        (Some (passers_place (layout_passed P shape reuse passers) reuse + PASSED_APART * r)) None)
-        (sym (lt-ltb r (layout_passed P shape reuse passers).passers below))
+  passed_there reuse apart at r many =
+      grind (arith, common_steps, passed_first, passers_of, first_there, lt-ltb)
 
 module _ {S : Type 0} (P : Protocol S Bool Verdict) (shape : Shape) (reuse : Option ℕ)
     (passers w first : ℕ)
@@ -187,14 +155,9 @@ module _ {S : Type 0} (P : Protocol S Bool Verdict) (shape : Shape) (reuse : Opt
   made_new bases are low home home_is words words_are senders new receivers readers stopped nobody
       owners none = record {
         bases_are = are;
-        words =
-            words_are ∙ ap (λ n. replicate (n + shape.log_words) 0) log_is
-            ∙ ap (λ n. replicate (log_place layout reuse + n) 0)
-            (sym (capacity_of P shape reuse passers));
+        words = grind (arith, common_steps, log_is, capacity_of);
         home = home_is;
-        senders = λ p v e.
-            let k = new.each p v e in
-            (let a = senders_are P shape reuse passers in let b = k.0 in omega arith, k.1);
+        senders = λ p v e. grind (arith, common_steps, senders_are);
         receivers = λ r v e.
             let i = readers.each r v e in
             record {
@@ -207,21 +170,13 @@ module _ {S : Type 0} (P : Protocol S Bool Verdict) (shape : Shape) (reuse : Opt
               going = i.going;
               read = subst (λ n. HasRead n [] [] v.frames)
                   (sym (senders_are P shape reuse passers)) i.read;
-              passed_is = i.passed_is
-                  ∙ passed_there P shape passers w first width reuse apart at r
-                  (has_place r (within receivers readers r v e));
+              passed_is = grind (arith, common_steps, passed_there, has_place, within);
               unpassed = i.unpassed;
               stays = i.stays;
             };
         apart = λ fresh. passers_of P shape reuse passers ∙ apart fresh;
-        many = λ r v e. elim (has_place r (within receivers readers r v e)) [
-          | inl none ↦ inl (passers_of P shape reuse passers ∙ none)
-          | inr low ↦ inr (let a = passers_of P shape reuse passers in omega arith)
-        ];
-        ring_bases = λ some s.
-            subst (λ n. slice_index bases s < n)
-            (numbers_some passers (let a = passers_of P shape reuse passers in omega arith))
-            (low s);
+        many = λ r v e. grind (arith, common_steps, has_place, within, passers_of);
+        ring_bases = λ some s. grind (arith, common_steps, slice_index, numbers_some, passers_of);
         stopped = nobody;
         owners = none;
       }
@@ -230,19 +185,14 @@ module _ {S : Type 0} (P : Protocol S Bool Verdict) (shape : Shape) (reuse : Opt
           → AreNewReceivers shape.senders log shape.log_words (first_passed first passers)
           shape.receivers receivers → (r : ℕ) (v : Receiving) → slice_get receivers r ≡ Some v
           → r < shape.receivers
-      within receivers readers r v e =
-          let low = slice_get_within receivers r v e in
-          let many = readers.many_are in omega arith
+      within receivers readers r v e = grind (arith, common_steps, slice_get_within)
 
 -- such a machine may be held
 rows_served : {S : Type 0} (P : Protocol S Bool Verdict) (shape : Shape) (reuse : Option ℕ)
     (passers : ℕ) → IsServed shape reuse → ShapeOf shape reuse
     → AreRows (layout_passed P shape reuse passers) reuse
 rows_served P shape None passers served same = served.rows.1
-rows_served P shape (Some rows) passers served same = (
-  (let a = served.rows.0 in omega arith, let a = served.rows.1 in omega arith),
-  refl,
-)
+rows_served P shape (Some rows) passers served same = grind (arith, common_steps)
 
 pub made_held :
     {E S : Type 0} (X : Election E) (P : Protocol S Bool Verdict) (shape : Shape) (reuse : Option ℕ)
@@ -251,24 +201,11 @@ pub made_held :
     → m.layout ≡ layout_passed P shape reuse passers → m.reuse ≡ reuse
     → length m.senders ≡ shape.senders → IsHeld X m
 made_held X P shape reuse passers each served same m new layout_is reuse_is many = record {
-  senders_few =
-      (let a = ap (λ (x : Layout). x.senders) layout_is ∙ senders_are P shape reuse passers in
-      let b = served.senders.1 in omega arith);
-  rows = subst (λ x. AreRows x m.reuse) (sym layout_is)
-      (subst (AreRows (layout_passed P shape reuse passers)) (sym reuse_is)
-      (rows_served P shape reuse passers served same));
-  capacity_some =
-      (let a = ap (λ (x : Layout). x.capacity) layout_is ∙ capacity_of P shape reuse passers in
-      let b = served.log_words.0 in omega arith);
-  capacity_few =
-      (let a = ap (λ (x : Layout). x.capacity) layout_is ∙ capacity_of P shape reuse passers in
-      let b = served.log_words.1 in omega arith);
-  passers_few =
-      (let a = ap (λ (x : Layout). x.passers) layout_is ∙ passers_of P shape reuse passers in
-      let b = served.receivers.1 in elim each [
-        | inl none ↦ omega arith
-        | inr all ↦ omega arith
-      ]);
+  senders_few = grind (arith, common_steps, senders_are);
+  rows = grind (arith, common_steps, rows_served);
+  capacity_some = grind (arith, common_steps, capacity_of);
+  capacity_few = grind (arith, common_steps, capacity_of);
+  passers_few = grind (arith, common_steps, passers_of);
   senders =
       many ∙ sym (ap (λ (x : Layout). x.senders) layout_is ∙ senders_are P shape reuse passers);
   trails = no_machine_trails;

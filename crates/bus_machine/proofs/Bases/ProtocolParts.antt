@@ -1,9 +1,11 @@
 -- Lists as tables, protocols that are alike, and what is due of who holds a page or fills a batch.
 use Rattle.std.proofs.Common.{◌≡◌, inl, inr, ℕ, ◌<◌, true, false, Bool, ◌&&◌, Option, Some, None}
-use Rattle.std.proofs.Common.{List, length, slice_get, slice_index, slice_set, refl, sym, ◌∙◌, ap}
+use Rattle.std.proofs.Common.{List, length, slice_get, slice_index, slice_set, refl, sym, ◌∙◌}
+use Rattle.std.proofs.Common.{arith}
 use mathlib.Core.Path.{fun_ext}
 use Rattle.std.proofs.lemmas.Bool.{cases_eq}
 use Rattle.std.proofs.lemmas.List.{get_or-set_same, get_or-set_other}
+use Rattle.std.proofs.lemmas.Grind.{common_steps}
 use Rattle.bus_register.specs.declared.registers.Op.{Op}
 use Rattle.bus_register.specs.declared.registers.Op.TheVariants.{Load, Store, Add, Cas}
 use Rattle.bus_register.specs.Words.{register, after}
@@ -11,7 +13,7 @@ use Rattle.bus_register.specs.Tables.{put}
 use Rattle.bus_register.specs.Private.TableLaws.{put_here, put_beside, get_set_same, get_set_other}
 use Rattle.bus_batch.specs.Batches.{Pending}
 use Rattle.bus_deliverylog.specs.Receiving.{Receiving}
-use Rattle.bus_presence.specs.Reclaimers.{Reclaiming, reclaim_op}
+use Rattle.bus_presence.specs.Reclaimers.{Reclaiming}
 use Rattle.bus_presence.specs.declared.pins.Pin.{Pin}
 use Rattle.bus_presence.specs.declared.pins.Pin.TheVariants.{Away, Announcing, Validating, Pinned}
 use Rattle.bus_presence.specs.declared.pins.Pin.TheVariants.{Unpinning, Invalidated}
@@ -33,22 +35,13 @@ use Rattle.bus_world.proofs.PlacedSteps.{same_register}
 -- ---- lists as tables
 pub list_put : {A B : Type 0} (f : Option A → B) (xs : List A) (s : ℕ) (a : A) → s < length xs
     → (λ p. f (slice_get (slice_set xs s a) p)) ≡ put s (f (Some a)) (λ p. f (slice_get xs p))
-list_put f xs s a l = fun_ext (λ p. elim (cases_eq p s) [
-  | inl i ↦
-      ap (λ q. f (slice_get (slice_set xs s a) q)) i ∙ ap f (get_set_same xs s a l)
-      ∙ sym (put_here s (f (Some a)) (λ q. f (slice_get xs q)))
-      ∙ sym (ap (put s (f (Some a)) (λ q. f (slice_get xs q))) i)
-  | inr ne ↦
-      ap f (get_set_other xs s a p ne)
-      ∙ sym (put_beside s (f (Some a)) (λ q. f (slice_get xs q)) p ne)
-])
+list_put f xs s a l =
+    grind (arith, cases_eq, slice_get, slice_set, get_set_same, put_here, get_set_other, put_beside)
 
 pub index_put : (xs : List ℕ) (r n : ℕ) → r < length xs
     → slice_index (slice_set xs r n) ≡ put r n (slice_index xs)
 index_put xs r n l = fun_ext (λ q. elim (cases_eq q r) [
-  | inl i ↦
-      ap (slice_index (slice_set xs r n)) i ∙ get_or-set_same xs r n 0 l
-      ∙ sym (put_here r n (slice_index xs)) ∙ sym (ap (put r n (slice_index xs)) i)
+  | inl i ↦ grind (arith, common_steps, slice_index, slice_set, get_or-set_same, put_here)
   | inr ne ↦ get_or-set_other xs r q n 0 ne ∙ sym (put_beside r n (slice_index xs) q ne)
 ])
 
@@ -63,11 +56,7 @@ pub placed_words : (f : ℕ → ℕ) (xs : List ℕ) (d : Option Op)
     → slice_index (words_after xs (op_placed f d)) ≡ words_stepped f (slice_index xs) d
 placed_words f xs None low = refl
 placed_words f xs (Some o) low =
-    let r = register (on_place f o) in
-    index_put xs r (after (on_place f o) (slice_index xs r)) (low (on_place f o) refl)
-    ∙ ap (λ q. put q (after (on_place f o) (slice_index xs q)) (slice_index xs)) (same_register f o)
-    ∙ ap (λ n. put (f (register o)) n (slice_index xs))
-    (same_after f o (slice_index xs (f (register o))))
+    grind (arith, common_steps, register, index_put, after, slice_index, same_register, same_after)
 
 -- in its own place
 pub stepped_words : (xs : List ℕ) (d : Option Op)
@@ -99,34 +88,7 @@ pub protocols_same : {E : Type 0} (bases : List ℕ) (w w' : ℕ → ℕ) (v v' 
       receivers = receivers;
       owners = owners;
     }
-protocols_same bases w w' v v' c c' reclaimer passing home receivers owners i j k =
-    ap (λ a. record {
-      bases = bases;
-      reclamation = record { words = a; pins = v; reclaimer = reclaimer };
-      passing = passing;
-      home = home;
-      senders = c;
-      receivers = receivers;
-      owners = owners;
-    }) i
-    ∙ ap (λ a. record {
-      bases = bases;
-      reclamation = record { words = w'; pins = a; reclaimer = reclaimer };
-      passing = passing;
-      home = home;
-      senders = c;
-      receivers = receivers;
-      owners = owners;
-    }) j
-    ∙ ap (λ a. record {
-      bases = bases;
-      reclamation = record { words = w'; pins = v'; reclaimer = reclaimer };
-      passing = passing;
-      home = home;
-      senders = a;
-      receivers = receivers;
-      owners = owners;
-    }) k
+protocols_same bases w w' v v' c c' reclaimer passing home receivers owners i j k = cc
 
 -- ---- what is due
 -- a step of a reclamation is due only of who would give the page back
@@ -149,35 +111,15 @@ reclaiming (TakesPage u) s t e = absurd cc
 reclaiming (AwaitsPage u) s t e = absurd cc
 reclaiming (StoresWord u page stored) s t e = absurd cc
 reclaiming (StoresLength u page stored) s t e = absurd cc
-reclaiming (GivesBack u page reason) s t e = record {
-  tenure = u;
-  page = page;
-  reason = reason;
-  is = refl;
-  same = e;
-}
+reclaiming (GivesBack u page reason) s t e = grind (arith, common_steps)
 reclaiming (HasHanded u reason) s t e = absurd cc
 
 pub due_reclaims :
     {E : Type 0} (v : Option Op) (l : Option Passing) (s : Option Reclaiming) (z : Situation E)
     (t : Reclaiming) (o : Op) → due_beside v l s z ≡ Reclaims t o → IsReclaiming z s t
 due_reclaims (Some p) l s z t o e = absurd cc
-due_reclaims {E} None l s z t o e = by_passed (passed_due z l) e
-  where
-    by_step : (r : Reclaiming) → reclaim_due z s ≡ Some r → (d : Option Op)
-        → due_reclaimed r d z ≡ Reclaims t o → IsReclaiming z s t
-    by_step r is None e = absurd cc
-    by_step r is (Some p) e = reclaiming z s t (is ∙ ap Some (let same : r ≡ t = cc in same))
-
-    by_home : (d : Option Reclaiming) → reclaim_due z s ≡ d → due_home d z ≡ Reclaims t o
-        → IsReclaiming z s t
-    by_home None is e = absurd cc
-    by_home (Some r) is e = by_step r is (reclaim_op r) e
-
-    by_passed : (d : Option (ℕ × Passing))
-        → due_passed d (due_home (reclaim_due z s) z) ≡ Reclaims t o → IsReclaiming z s t
-    by_passed None e = by_home (reclaim_due z s) refl e
-    by_passed (Some q) e = absurd cc
+due_reclaims {E} None l s z t o e =
+    grind (arith, passed_due, reclaim_due, due_reclaimed, reclaiming, due_home, due_passed)
 
 -- ---- a batch that may be filled is not on its way
 busy_puts : (p : Bool) → (p && false) ≡ true → ⊥

@@ -1,9 +1,10 @@
 -- What the calls of a program say of each event, by what it holds.
 use Rattle.std.proofs.Common.{◌≡◌, ℕ, ◌<◌, ◌≤◌, Bool, true, false, cond, Option, Some, None, List}
-use Rattle.std.proofs.Common.{get_or, length, slice_get, slice_index, slice_set, refl, sym, ◌∙◌}
-use Rattle.std.proofs.Common.{ap, subst}
+use Rattle.std.proofs.Common.{get_or, length, slice_get, slice_index, slice_set, refl, sym, ◌∙◌, ap}
+use Rattle.std.proofs.Common.{subst, arith}
 use Rattle.std.specs.Prelude.{All, IfSome, Result, Ok, Err, IfOk, IfErr, OnOk, OnErr}
 use Rattle.std.proofs.lemmas.Option.{slice_get_past}
+use Rattle.std.proofs.lemmas.Grind.{common_steps}
 use Rattle.bus_core.specs.Senders.{Sender}
 use Rattle.bus_core.specs.Table.{Line, line_now}
 use Rattle.bus_deliverylog.specs.Receiving.{Receiving, with_leave, receiving_op, leaving_op}
@@ -21,14 +22,14 @@ use Rattle.bus_world.proofs.PlayingLaws.{set_same, one_there}
 use Rattle.bus_world.proofs.Stopping.{set_there}
 use Rattle.bus_batch.specs.declared.messages.Mark.{Mark}
 use Rattle.bus_world.specs.Playing.{asked_answer}
-use Rattle.bus_world.specs.Turning.{words_after, home_moved, after_step, owners_by}
+use Rattle.bus_world.specs.Turning.{words_after, owners_by}
 use Rattle.bus_world.specs.World.{Put, Ask, Turn, Recv, Stop, Gone, RecvDoes}
 use Rattle.bus_world.specs.declared.events.Answer.TheVariants as answer
 use Rattle.bus_world.specs.declared.events.StepFault.{StepFault}
 use Rattle.bus_world.specs.declared.events.StepFault.TheVariants as fault
 use Rattle.bus_machine.proofs.Calls.Holding.{held_after}
 use Rattle.bus_machine.specs.Machine.{Machine, Happens, IsOnWord, going, has_stopped, with_sender}
-use Rattle.bus_machine.specs.Machine.{moved, found, machine_after, owners_told, turn_answer}
+use Rattle.bus_machine.specs.Machine.{machine_after, owners_told, turn_answer}
 use Rattle.bus_machine.specs.Playing.{IsHeld, Refused, Refuses, SenderRefused, PutRefused}
 use Rattle.bus_machine.specs.Playing.{CloseRefused}
 use Rattle.bus_machine.specs.Telling.{StepTells, SenderSays, Says, SenderCauses, Causes}
@@ -97,9 +98,7 @@ module _ {E : Type 0} where
   pub stop_late : (m now : Machine E) → m ≡ now → (p : ℕ) → p < length m.senders
       → get_or m.stopped p false ≡ true → Refused now (Stop p) fault.Stopped
   stop_late m now is p l e = let there = one_there m.senders p l in
-      subst (λ y. Refused y (Stop p) fault.Stopped) is
-      (as_stopped (slice_get m.senders p) (has_stopped m p) (λ v. ⊥) there.0 there.1
-      (set_there m.stopped p e))
+      grind (arith, common_steps, as_stopped, slice_get, set_there)
 
   pub stop_unknown : (m now : Machine E) → m ≡ now → (p : ℕ) → length m.senders ≤ p
       → Refused now (Stop p) fault.NoSuchSender
@@ -108,17 +107,10 @@ module _ {E : Type 0} where
 
   module _ (now : Machine E) (p : ℕ) (why : StepFault) (w : Refused now (Stop p) why) where
     pub put_unknown : (bytes : List ℕ) → Refuses now (Put p bytes) why now
-    put_unknown bytes = record {
-      refused = other_cause (slice_get now.senders p) (has_stopped now p) why
-          (PutRefused (length bytes) why) w;
-      nothing = refl;
-    }
+    put_unknown bytes = grind (arith, common_steps, other_cause, slice_get, length)
 
     pub mark_unknown : (asked : Mark) → Refuses now (Ask p asked) why now
-    mark_unknown asked = record {
-      refused = other_cause (slice_get now.senders p) (has_stopped now p) why (CloseRefused why) w;
-      nothing = refl;
-    }
+    mark_unknown asked = grind (arith, common_steps, other_cause, slice_get)
 
     pub turn_unknown : (word : ℕ) → Refuses now (Turn p word) why now
     turn_unknown word = record { refused = w; nothing = refl }
@@ -152,30 +144,17 @@ module _ {E : Type 0} (X : Election E) (m : Machine E) (h : IsHeld X m) (now : M
     module _ (bytes : List ℕ) (small : All (λ byte. byte < 256) bytes) (v' : Sender E) where
       put_does : (number : ℕ) → HasTaken v bytes number v'
           → Happens X m (Put p bytes) (answer.Number number) (with_sender m p v')
-      put_does number t = record {
-        sender = v;
-        goes = goes;
-        are_bytes = small;
-        can = t.can;
-        answered = ap answer.Number t.number_is;
-        after = ap (with_sender m p) t.sender_is;
-      }
+      put_does number t = grind (arith, common_steps, goes)
 
       pub put_happens : (r : Result ℕ StepFault) → IfOk r (λ number. HasTaken v bytes number v')
           → IfOk r
           (λ number. Happens X now (Put p bytes) (answer.Number number) (with_sender m p v'))
-      put_happens r t = ok_more r _ _ t (λ number k. subst
-          (λ y. Happens X y (Put p bytes) (answer.Number number) (with_sender m p v')) is
-          (put_does number k))
+      put_happens r t = grind (arith, common_steps, ok_more, put_does)
 
       pub put_refuses : (r : Result ℕ StepFault) → IfErr r (λ why. PutRefused (length bytes) why v)
           → OnErr r (v' ≡ v) → IfErr r (λ why. Refuses now (Put p bytes) why (with_sender m p v'))
-      put_refuses r w same = err_more r _ _ _ w same (λ why k e. record {
-        refused = subst (λ y. Refused y (Put p bytes) why) is
-            (own_cause (slice_get m.senders p) (has_stopped m p) why (PutRefused (length bytes) why)
-            v at free_here k);
-        nothing = same_sender v' e;
-      })
+      put_refuses r w same =
+          grind (arith, err_more, own_cause, slice_get, length, free_here, same_sender)
 
       pub put_sits : (r : Result ℕ StepFault) → IfOk r (λ number. HasTaken v bytes number v')
           → IfErr r (λ why. PutRefused (length bytes) why v) → OnErr r (v' ≡ v)
@@ -189,28 +168,16 @@ module _ {E : Type 0} (X : Election E) (m : Machine E) (h : IsHeld X m) (now : M
     module _ (asked : Mark) (v' : Sender E) where
       mark_does : HasShut v asked v'
           → Happens X m (Ask p asked) (asked_answer asked) (with_sender m p v')
-      mark_does t = record {
-        sender = v;
-        goes = goes;
-        can = t.can;
-        answered = refl;
-        after = ap (with_sender m p) t.sender_is;
-      }
+      mark_does t = grind (arith, common_steps, goes)
 
       pub mark_happens : (r : Result (Unit {0}) StepFault) → OnOk r (HasShut v asked v')
           → OnOk r (Happens X now (Ask p asked) (asked_answer asked) (with_sender m p v'))
-      mark_happens r t = unit_more r _ _ t (λ k. subst
-          (λ y. Happens X y (Ask p asked) (asked_answer asked) (with_sender m p v')) is
-          (mark_does k))
+      mark_happens r t = grind (arith, common_steps, unit_more, mark_does)
 
       pub mark_refuses : (r : Result (Unit {0}) StepFault) → IfErr r (λ why. CloseRefused why v)
           → OnErr r (v' ≡ v) → IfErr r (λ why. Refuses now (Ask p asked) why (with_sender m p v'))
-      mark_refuses r w same = err_more r _ _ _ w same (λ why k e. record {
-        refused = subst (λ y. Refused y (Ask p asked) why) is
-            (own_cause (slice_get m.senders p) (has_stopped m p) why (CloseRefused why) v at
-            free_here k);
-        nothing = same_sender v' e;
-      })
+      mark_refuses r w same =
+          grind (arith, common_steps, err_more, own_cause, slice_get, free_here, same_sender)
 
       pub mark_sits : (r : Result (Unit {0}) StepFault) → OnOk r (HasShut v asked v')
           → IfErr r (λ why. CloseRefused why v) → OnErr r (v' ≡ v) → IsHeld X (with_sender m p v')
@@ -254,41 +221,10 @@ module _ {E : Type 0} (X : Election E) (m : Machine E) (h : IsHeld X m) (now : M
       owners_are = owners ∙ ap (λ a. owners_told m.reuse (owners_by a p m.owners)) turned.answer_is
 
       turn_is : with_turn ≡ machine_after m p l word
-      turn_is =
-          ap (λ w. record m {
-            words = w;
-            home = home';
-            senders = slice_set m.senders p v';
-            owners = owners';
-          }) turned.words_are
-          ∙ ap (λ w. record m {
-            words = words_after m.words (l.op word);
-            home = w;
-            senders = slice_set m.senders p v';
-            owners = owners';
-          }) turned.home_is
-          ∙ ap (λ w. record m {
-            words = words_after m.words (l.op word);
-            home = home_moved l.move m.home;
-            senders = slice_set m.senders p w;
-            owners = owners';
-          }) turned.sender_is
-          ∙ ap (λ w. record m {
-            words = words_after m.words (l.op word);
-            home = home_moved l.move m.home;
-            senders = slice_set m.senders p
-                (moved (after_step l.move) m.home (l.fed (found m l word) word));
-            owners = w;
-          }) owners_are
+      turn_is = cc
 
       turn_does : Happens X m (Turn p word) (answer.Turn t) with_turn
-      turn_does = record {
-        sender = v;
-        goes = goes;
-        within = within (l.op word) turned.on_word;
-        answered = ap answer.Turn turned.answer_is;
-        after = turn_is;
-      }
+      turn_does = grind (arith, common_steps, goes, within, turn_is)
 
       pub turn_happens : Happens X now (Turn p word) (answer.Turn t) with_turn
       turn_happens = subst (λ y. Happens X y (Turn p word) (answer.Turn t) with_turn) is turn_does
@@ -320,17 +256,7 @@ module _ {E : Type 0} (X : Election E) (m : Machine E) (h : IsHeld X m) (now : M
       with_reader = record m { words = words'; receivers = slice_set m.receivers r next }
 
       recv_does : Happens X m (Recv r) (answer.Recv t) with_reader
-      recv_does = record {
-        receiver = v;
-        next = next;
-        heard = t;
-        there = at;
-        stays = stays;
-        within = on_word (receiving_op v) low;
-        does = does;
-        answered = refl;
-        after = ap (λ w. record m { words = w; receivers = slice_set m.receivers r next }) same;
-      }
+      recv_does = grind (arith, common_steps, stays, on_word, slice_set)
 
       pub recv_happens : Happens X now (Recv r) (answer.Recv t) with_reader
       recv_happens = subst (λ y. Happens X y (Recv r) (answer.Recv t) with_reader) is recv_does
@@ -347,19 +273,7 @@ module _ {E : Type 0} (X : Election E) (m : Machine E) (h : IsHeld X m) (now : M
       without = record m { words = words'; receivers = slice_set m.receivers r left }
 
       gone_does : Happens X m (Gone r) answer.Gone without
-      gone_does = record {
-        receiver = v;
-        there = at;
-        stays = stays;
-        within = on_word (leaving_op v) low;
-        answered = refl;
-        after =
-            ap (λ w. record m { words = w; receivers = slice_set m.receivers r left }) same
-            ∙ ap (λ u. record m {
-              words = words_after m.words (leaving_op v);
-              receivers = slice_set m.receivers r u;
-            }) left_is;
-      }
+      gone_does = grind (arith, common_steps, stays, on_word, slice_set)
 
       pub gone_happens : Happens X now (Gone r) answer.Gone without
       gone_happens = subst (λ y. Happens X y (Gone r) answer.Gone without) is gone_does

@@ -1,15 +1,14 @@
 -- What a fork does, and what it keeps, by what a machine holds.
-use Rattle.std.proofs.Common.{◌≡◌, ◌⊎◌, inl, inr, ℕ, ◌+◌, ◌*◌, ◌<◌, ◌≤◌, ◌==◌, Bool, true, false}
-use Rattle.std.proofs.Common.{cond, Option, Some, None, List, eq-eqb, length, slice_get}
-use Rattle.std.proofs.Common.{get_or, slice_index, slice_set}
-use Rattle.std.proofs.Common.{arith, refl, sym, ◌∙◌, ap, subst}
+use Rattle.std.proofs.Common.{◌≡◌, ◌⊎◌, inl, ℕ, ◌<◌, ◌≤◌, ◌==◌, Bool, true, false, cond, Option}
+use Rattle.std.proofs.Common.{Some, None, List, eq-eqb, length, slice_get, get_or, slice_index}
+use Rattle.std.proofs.Common.{slice_set, arith, refl, sym, ◌∙◌, ap, subst}
 use Rattle.std.specs.Prelude.{IfSome, Result, Ok, IfOk}
 use Rattle.std.proofs.lemmas.Bool.{cases_Bool}
 use Rattle.std.proofs.lemmas.Bool.Decides.{eqb_tells}
 use Rattle.std.proofs.lemmas.List.{set-get_or}
+use Rattle.std.proofs.lemmas.Grind.{common_steps}
 use Rattle.bus_batch.proofs.FrameLaws.{spells_one}
 use Rattle.bus_batch.specs.Frames.{Order, Spells}
-use Rattle.bus_core.specs.declared.limits.TheConstants.{PASSED_APART}
 use Rattle.bus_deliverylog.specs.Receiving.{Receiving, leaving_by, joining_by, joining_op}
 use Rattle.bus_deliverylog.specs.Receiving.{forked_at}
 use Rattle.bus_presence.proofs.ReclamationKept.{lt_tells}
@@ -36,7 +35,7 @@ use Rattle.bus_machine.proofs.Promised.{promised}
 use Rattle.bus_machine.proofs.Tenures.Nobody.{some_nobody}
 use Rattle.bus_machine.specs.Forking.{KeepsForked}
 use Rattle.bus_machine.specs.Machine.{Machine, Trails, Reached, Joins, Forks, IsOnWord, fork_in}
-use Rattle.bus_machine.specs.Machine.{passed_by, passers_place, trails_joined}
+use Rattle.bus_machine.specs.Machine.{passed_by, trails_joined}
 use Rattle.bus_machine.specs.Playing.{AreRows, IsHeld}
 use Rattle.bus_machine.specs.Promise.{IsPromised, IsPromisedBy}
 
@@ -93,16 +92,8 @@ module _ {E : Type 0} (X : Election E) (P : Protocol E (Unit {0}) ℕ) (m : Mach
 
   -- where one has no passed place none has
   pub none_passes : w.passed_at ≡ None → v.passed_at ≡ None
-  none_passes none = elim own_place [
-    | inl flat ↦ passes_by X m h.trails h.reached i v at ∙ passed_first m.layout m.reuse i flat
-    | inr below ↦ elim (lt_tells j m.layout.passers) [
-      | inl e ↦ absurd (let place = passers_place m.layout m.reuse + PASSED_APART * j in
-          let bad : None ≡ Some place =
-          sym none ∙ w_passes ∙ ap (λ b. cond {A = Option ℕ} b (Some place) None) e.0 in
-          cc)
-      | inr past ↦ absurd (let over = past.1 in omega arith)
-    ]
-  ]
+  none_passes none =
+      grind (arith, common_steps, own_place, passes_by, at, passed_first, lt_tells, w_passes)
 
   -- ---- one is made that has the passed place of the other
   module _ (made : Receiving) (made_is : made ≡ forked_at w.passed_at v) where
@@ -136,21 +127,11 @@ module _ {E : Type 0} (X : Election E) (P : Protocol E (Unit {0}) ℕ) (m : Mach
       stands_low place e goes all =
           let shown = (f.heard j w place was e goes).0 in
           let own = (f.reads j w was).1.receives in
-          let known = own.place_below in
-          let less = own.known_below in
-          let size = length-logged f.sending.log in
-          let few = words_low m.layout.senders f.frames f.sending.log.lawful in omega arith
+          grind (arith, common_steps, length-logged, f, words_low)
 
       shows : (place : ℕ) → passed_by m.layout m.reuse j ≡ Some place
           → (slice_index m.words place == PASSED_ALL) ≡ w.gone
-      shows place e = elim (cases_Bool w.gone) [
-        | inl left ↦ eq-eqb (slice_index m.words place) PASSED_ALL
-            ((f.passes j w was).1 place e ∙ ap (λ b. cond b PASSED_ALL w.passed) left) ∙ sym left
-        | inr goes ↦ elim (eqb_tells (slice_index m.words place) PASSED_ALL) [
-          | inl all ↦ absurd (stands_low place e goes all.1)
-          | inr other ↦ other.0 ∙ sym goes
-        ]
-      ]
+      shows place e = grind (arith, cases_Bool, eq-eqb, slice_index, f, was, eqb_tells, stands_low)
 
       is_free : did ≡ w.gone
       is_free = by (passed_by m.layout m.reuse j) refl where
@@ -176,15 +157,7 @@ module _ {E : Type 0} (X : Election E) (P : Protocol E (Unit {0}) ℕ) (m : Mach
         within = subst (λ (u : Receiving). IsOnWord m (joining_op u)) forked_is
             (within m (joining_op made) join_within);
         finds = finds;
-        after =
-            ap (λ ws. record m {
-              words = ws;
-              receivers = cond did (slice_set m.receivers j made) m.receivers;
-            }) words_are
-            ∙ ap (λ u. record m {
-              words = words_after m.words (joining_op u);
-              receivers = cond did (slice_set m.receivers j u) m.receivers;
-            }) forked_is;
+        after = grind (arith, common_steps, slice_set, forked_is);
       }
 
       pub does_now : Forks now i j did forked
@@ -204,28 +177,14 @@ module _ {E : Type 0} (X : Election E) (m m' : Machine E) (i j : ℕ) where
         capacity_some = subst (λ x. 0 < x.capacity) (sym same.0) h.capacity_some;
         capacity_few = subst (λ x. x.capacity ≤ 65536) (sym same.0) h.capacity_few;
         passers_few = subst (λ x. x.passers ≤ MOST_RECEIVERS) (sym same.0) h.passers_few;
-        senders =
-            ap (λ (y : Machine E). length y.senders) d.after ∙ h.senders
-            ∙ sym (ap (λ x. x.senders) same.0);
+        senders = cc;
         trails = trails_joined i j n.0 h.trails;
         reached = Joins m m' h.trails i j n.0 h.reached d n.1 n.2;
       }
 
   -- and else nothing has changed
   pub unforked : Forks m i j false m' → m' ≡ m
-  unforked d = by (passed_by m.layout m.reuse j) refl where
-    with_words : List ℕ → Machine E
-    with_words ws = record m { words = ws }
-
-    by : (o : Option ℕ) → passed_by m.layout m.reuse j ≡ o → m' ≡ m
-    by None none =
-        d.after ∙ ap (λ o. with_words (words_after m.words (joining_by o d.maker.passed))) none
-    by (Some place) e =
-        d.after ∙ ap (λ o. with_words (words_after m.words (joining_by o d.maker.passed))) e
-        ∙ ap (λ b. with_words
-        (slice_set m.words place (cond b d.maker.passed (slice_index m.words place))))
-        (sym (d.finds place e))
-        ∙ ap with_words (set-get_or m.words place 0)
+  unforked d = grind (arith, common_steps, slice_set, slice_index, set-get_or)
 
 -- ---- the promise
 -- it holds by whatever order and owners the log spells

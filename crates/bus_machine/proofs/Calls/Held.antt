@@ -1,7 +1,8 @@
 -- What a machine that a program holds has, as its calls say it.
 use Rattle.std.proofs.Common.{◌≡◌, ℕ, ◌+◌, ◌-◌, ◌<◌, ◌≤◌, Bool, List, length, take, slice_get}
-use Rattle.std.proofs.Common.{subst}
+use Rattle.std.proofs.Common.{subst, arith}
 use Rattle.std.specs.Prelude.{Result, Ok, Err, IfOk, OnOk}
+use Rattle.std.proofs.lemmas.Grind.{common_steps}
 use Rattle.bus_adoptcommit.specs.declared.verdicts.Verdict.{Verdict}
 use Rattle.bus_batch.specs.Frames.{Frame, Order, AreFrames, log_words, log_pieces, order_in}
 use Rattle.bus_deliverylog.specs.Receiving.{Receiving}
@@ -60,9 +61,7 @@ module _ {S : Type 0} (X : Election (Elector S)) (Q : Protocol S Bool Verdict)
 
   pub answers : (e : Event) (a : Answer) (new : Machine (Elector S)) → Happens X now e a new
       → Causes X Q now e → Says X now e a → Answers X Q now e a new
-  answers = subst (λ y.
-      (e : Event) (a : Answer) (new : Machine (Elector S)) → Happens X y e a new → Causes X Q y e
-      → Says X y e a → Answers X Q y e a new) is answers_here
+  answers = grind (arith, common_steps, answers_here)
 
   -- of what each call gives
   pub all_answer : (e : Event) (new : Machine (Elector S)) (r : Result Answer StepFault)
@@ -73,10 +72,7 @@ module _ {S : Type 0} (X : Election (Elector S)) (Q : Protocol S Bool Verdict)
 
   pub played : (events : List Event) (new : Machine (Elector S)) → AllAnswered X Q now events new
       → Played X Q now events new
-  played = subst (λ y.
-      (events : List Event) (new : Machine (Elector S)) → AllAnswered X Q y events new
-      → Played X Q y events new) is
-      (λ events new run. playing.played X Q P events m new h.trails h.reached (sits X P m s h) run)
+  played = grind (arith, common_steps, playing.played, sits)
 
   pub happened : (T : Trails) × Reached X now T
   happened = subst (λ y. (T : Trails) × Reached X y T) is (h.trails, h.reached)
@@ -94,12 +90,7 @@ module _ {S : Type 0} (X : Election (Elector S)) (Q : Protocol S Bool Verdict)
       → ((e : Elector S) → P.left e ≡ X.turns_left e - 1)
       → ((p at : ℕ) (e : Elector S) → P.Belongs m.layout.senders p at e → 1 ≤ X.turns_left e)
       → (T : Trails) → Reached X now T → AreBounded X (bound now.layout) now T × PinsAreBounded T
-  steps_bounded bound many tells last = subst
-      (λ y. (T : Trails) → Reached X y T → AreBounded X (bound y.layout) y T × PinsAreBounded T) is
-      (λ T r. (
-        bounded X P m T (sits X P m s h) r (bound m.layout) many tells last,
-        pins_bounded X P m T (sits X P m s h) r,
-      ))
+  steps_bounded bound many tells last = grind (arith, common_steps, bounded, sits, pins_bounded)
 
   pub took : (T : Trails) → Reached X now T → TakersTold now.reuse now.owners T.actions
   took T r = (promised T r).by.takers

@@ -1,28 +1,24 @@
 -- What a machine that a program holds goes by: room, sums that fit, numbers that fit, no page under
 -- way between turns, and its log.
-use Rattle.std.proofs.Common.{◌≡◌, ℕ, zero, suc, ◌+◌, ◌-◌, ◌*◌, ◌%◌, ◌<◌, ◌≤◌, ◌^◌, Bool, ◌&&◌}
-use Rattle.std.proofs.Common.{nat_lt}
-use Rattle.std.proofs.Common.{true, false, cond, ◌==◌, is_some, Option, Some, None, List}
-use Rattle.std.proofs.Common.{length}
+use Rattle.std.proofs.Common.{◌≡◌, ℕ, zero, suc, ◌+◌, ◌-◌, ◌*◌, ◌%◌, ◌<◌, ◌≤◌, ◌^◌, Bool, nat_lt}
+use Rattle.std.proofs.Common.{true, false, cond, ◌==◌, is_some, Option, Some, None, List, length}
 use Rattle.std.proofs.Common.{drop, slice_get, slice_index, arith, refl, sym, ◌∙◌, ap, subst}
 use Rattle.std.specs.Prelude.{IfSome}
 use Rattle.std.proofs.Math.ListN.{length-set}
-use Rattle.std.proofs.lemmas.Grind.{flat_map-append}
+use Rattle.std.proofs.lemmas.Grind.{flat_map-append, common_steps}
 use Rattle.std.proofs.lemmas.List.{length-append, length-drop}
 use Rattle.std.proofs.lemmas.Nat.{mod_below}
 use Rattle.std.proofs.lemmas.Option.{same_Some}
 use Rattle.bus_register.specs.declared.limits.TheConstants.{MOST_RECEIVERS, MOST_SENDERS}
 use Rattle.bus_register.specs.Tables.{of_some}
 use Rattle.bus_batch.specs.Batches.{next_of}
-use Rattle.bus_batch.specs.Frames.{Frame, Order, AreFrames, frame_words, log_words}
-use Rattle.bus_batch.specs.Reading.{is_between}
+use Rattle.bus_batch.specs.Frames.{Frame, Order, AreFrames, log_words}
 use Rattle.bus_core.proofs.Situated.{own_is}
-use Rattle.bus_core.specs.Senders.{Sender, Situation, Does, log_start, situation, words_all}
+use Rattle.bus_core.specs.Senders.{Sender, Situation, Does, situation, words_all}
 use Rattle.bus_core.specs.Table.{line, line_now, in_row}
 use Rattle.bus_core.specs.declared.reuses.Reuse.{Reuse}
 use Rattle.bus_core.specs.declared.limits.TheConstants.{PASSED_APART}
-use Rattle.bus_deliverylog.specs.Receiving.{Receiving, receiving_op, op_by, leaving_op, leaving_by}
-use Rattle.bus_deliverylog.specs.Receiving.{passing_due}
+use Rattle.bus_deliverylog.specs.Receiving.{Receiving, receiving_op, op_by, leaving_op, passing_due}
 use Rattle.bus_register.specs.Protocol.{Protocol}
 use Rattle.bus_register.specs.Words.{register, SumFits}
 use Rattle.bus_register.specs.declared.registers.Op.{Op}
@@ -177,29 +173,15 @@ module _ {E : Type 0} (X : Election E) (P : Protocol E (Unit {0}) ℕ) where
   -- ---- its sizes are served
   layout_ok : (x : Layout) (o : Option ℕ) → x.senders ≤ MOST_SENDERS → x.capacity ≤ 65536
       → x.passers ≤ MOST_RECEIVERS → AreRows x o → IsLayout x
-  layout_ok x None few small passed r = record {
-    senders = few;
-    rows = omega arith;
-    capacity = omega arith;
-    passers = passed;
-  }
-  layout_ok x (Some rows) few small passed r = record {
-    senders = few;
-    rows = (let e = r.1 in omega arith);
-    capacity = omega arith;
-    passers = passed;
-  }
+  layout_ok x None few small passed r = grind (arith, common_steps)
+  layout_ok x (Some rows) few small passed r = grind (arith, common_steps)
 
   has_rows : (x : Layout) (o : Option ℕ) → AreRows x o → HasRows o
   has_rows x None r = tt
   has_rows x (Some rows) r = r.0.0
 
   pub sits : (m : Machine E) → Serves X P m.layout → IsHeld X m → Sits X P m
-  sits m s h = record {
-    serves = s;
-    ok = layout_ok m.layout m.reuse h.senders_few h.capacity_few h.passers_few h.rows;
-    rows = has_rows m.layout m.reuse h.rows;
-  }
+  sits m s h = grind (arith, common_steps, layout_ok, has_rows)
 
   module _ (m : Machine E) (s : Serves X P m.layout) (h : IsHeld X m) where
     -- by the frames of its log
@@ -208,32 +190,19 @@ module _ {E : Type 0} (X : Election E) (P : Protocol E (Unit {0}) ℕ) where
 
     -- its floor is no further than the length
     pub floor_below : floor_of m ≤ slice_index m.words 0
-    floor_below =
-        let edge = its_frames.edge in
-        let at = edge.place_is in
-        let all = ap (λ fs. length (log_words fs)) edge.frames_are
-        ∙ ap length (flat_map-append frame_words edge.front edge.rest)
-        ∙ length-append (log_words edge.front) (log_words edge.rest) in
-        let size = length-logged its_frames.sending.log in
-        let same = its_frames.length in omega arith
+    floor_below = grind (arith, its_frames, length, flat_map-append, length-append, length-logged)
 
     -- there is a first word, and the log is among the words
     pub word_there : (words : List ℕ) → words ≡ m.words → (capacity : ℕ)
         → capacity ≡ m.layout.capacity → (1 ≤ length words) × (capacity ≤ length words)
     word_there words words_are capacity capacity_is =
-        let size : length words ≡ log_place m.layout m.reuse + m.layout.capacity =
-        ap length words_are ∙ its_frames.room in
-        let two = log_behind m.layout m.reuse in
-        (omega arith, omega arith)
+        grind (arith, common_steps, length, its_frames, log_behind)
 
     -- the log stands behind all other words
     pub log_there : (words : List ℕ) → words ≡ m.words → (capacity : ℕ)
         → capacity ≡ m.layout.capacity
         → length words - capacity ≡ log_place m.layout m.reuse
-    log_there words words_are capacity capacity_is =
-        let size : length words ≡ log_place m.layout m.reuse + m.layout.capacity =
-        ap length words_are ∙ its_frames.room in
-        omega arith
+    log_there words words_are capacity capacity_is = grind (arith, common_steps, length, its_frames)
 
     -- and the passed places right before it, if there are any
     passers_behind : (o : Option ℕ) → m.reuse ≡ o → (m.layout.passers ≡ 0 → ⊥)
@@ -257,21 +226,12 @@ module _ {E : Type 0} (X : Election E) (P : Protocol E (Unit {0}) ℕ) where
         → least_passed (slice_index words) (length words - capacity - PASSED_APART * passers)
         passers (slice_index words 0) ≡ floor_of m
     floor_is passers is some words words_are capacity capacity_is =
-        ap (λ n. least_passed (slice_index words) n passers (slice_index words 0))
-        (passers_there passers is some words words_are capacity capacity_is).1
-        ∙ shown_some (slice_index words) (passers_place m.layout m.reuse) passers
-        (slice_index words 0) some
-        ∙ ap (λ l. floor_shown (slice_index l) (passers_place m.layout m.reuse) passers
-        (slice_index l 0)) words_are
-        ∙ ap (λ n. floor_shown (slice_index m.words) (passers_place m.layout m.reuse) n
-        (slice_index m.words 0)) (sym is)
+        grind (arith, common_steps, slice_index, passers_there, shown_some)
 
     pub floor_within : (words : List ℕ) → words ≡ m.words → (now : Machine E) → m ≡ now
         → (floor : ℕ) → floor ≡ floor_of now → floor ≤ slice_index words 0
     floor_within words words_are now is floor floor_are =
-        subst (λ n. n ≤ slice_index words 0) (sym floor_are)
-        (subst (λ y. floor_of y ≤ slice_index words 0) is
-        (subst (λ l. floor_of m ≤ slice_index l 0) (sym words_are) floor_below))
+        grind (arith, common_steps, slice_index, floor_below)
 
     -- what is copied from there on is the log that stands
     pub log_shown : (words : List ℕ) → words ≡ m.words → (capacity : ℕ)
@@ -279,27 +239,14 @@ module _ {E : Type 0} (X : Election E) (P : Protocol E (Unit {0}) ℕ) where
         → floor ≡ floor_of now
         → words_in_ring (slice_index words) (length words - capacity) capacity floor
         (slice_index words 0 - floor) ≡ log_of now
-    log_shown words words_are capacity capacity_is now is floor = subst
-        (λ y. floor ≡ floor_of y
-        → words_in_ring (slice_index words) (length words - capacity) capacity floor
-        (slice_index words 0 - floor) ≡ log_of y) is
-        (λ e.
-        ap (λ n. words_in_ring (slice_index words) n capacity floor (slice_index words 0 - floor))
-        (log_there words words_are capacity capacity_is)
-        ∙ ap (λ n. words_in_ring (slice_index words) (log_place m.layout m.reuse) n floor
-        (slice_index words 0 - floor)) capacity_is
-        ∙ ap (λ l. words_in_ring (slice_index l) (log_place m.layout m.reuse) m.layout.capacity
-        floor (slice_index l 0 - floor)) words_are
-        ∙ ap (λ n. words_in_ring (slice_index m.words) (log_place m.layout m.reuse)
-        m.layout.capacity n (slice_index m.words 0 - n)) e)
+    log_shown words words_are capacity capacity_is now is floor =
+        grind (arith, common_steps, slice_index, length, log_there)
 
     -- at most so many owners are told
     pub owners_few : (rows : ℕ) → m.reuse ≡ Some rows → length m.owners ≤ rows
     owners_few rows used =
         let k = takers_told X P m h.trails (sits m s h) h.reached in
-        let is = ap length (k.told ∙ ap (λ o. owners_told o k.all) used) in
-        let left = length-drop (length k.all - rows) k.all in
-        omega arith
+        grind (arith, common_steps, length, length-drop)
 
     pub rows_within : (rows : ℕ) → m.reuse ≡ Some rows → (2 ≤ rows) × (rows ≤ 8)
     rows_within rows used = (subst (AreRows m.layout) used h.rows).0
@@ -310,9 +257,7 @@ module _ {E : Type 0} (X : Election E) (P : Protocol E (Unit {0}) ℕ) where
       its_part = its_frames.sending.parts p v.core (its_frames.core_of p v at)
 
       pub room : length m.words ≡ words_all v
-      room =
-          its_frames.room ∙ ap (λ n. n + m.layout.capacity) (sym (its_frames.starts p v at))
-          ∙ ap (λ x. log_start x v.reuse + x.capacity) (sym its_part.layout)
+      room = grind (arith, common_steps, its_frames, its_part)
 
       pub sums : (word : ℕ) (o : Op) → (line_now X v).op word ≡ Some o
           → SumFits o (slice_index m.words (register o))
@@ -367,23 +312,13 @@ module _ {E : Type 0} (X : Election E) (P : Protocol E (Unit {0}) ℕ) where
       its_reads = its_frames.reads r v at
 
       passed_there : (place : ℕ) → v.passed_at ≡ Some place → place < length m.words
-      passed_there place is =
-          let low = its_reads.2 place is in
-          let size = its_frames.room in
-          omega arith
+      passed_there place is = grind (arith, common_steps, its_reads, its_frames)
 
       pub leaves_within : IfSome (leaving_op v) (λ o. register o < length m.words)
-      leaves_within = by v.passed_at refl where
-        by : (o : Option ℕ) → v.passed_at ≡ o
-            → IfSome (leaving_by o) (λ q. register q < length m.words)
-        by None is = tt
-        by (Some place) is = passed_there place is
+      leaves_within = grind (arith, common_steps, register, length, passed_there)
 
       due_there : (place : ℕ) → passing_due v ≡ Some place → v.passed_at ≡ Some place
-      due_there place = by (is_between v.frames.place && nat_lt v.passed v.place) where
-        by : (b : Bool) → cond b v.passed_at None ≡ Some place → v.passed_at ≡ Some place
-        by true e = e
-        by false e = absurd cc
+      due_there place = grind (arith, common_steps, nat_lt)
 
       pub loads_within : IfSome (receiving_op v) (λ o. register o < length m.words)
       loads_within = by v.ended (passing_due v) refl where
@@ -409,22 +344,13 @@ module _ {E : Type 0} (X : Election E) (P : Protocol E (Unit {0}) ℕ) where
 
       -- what it has read of what stands
       pub place_within : v.place - floor_of m ≤ length (log_of m)
-      place_within =
-          let own = its_reads.1.receives in
-          let a = own.place_below in
-          let b = own.known_below in
-          let same = its_frames.length in
-          let size = length-ring (slice_index m.words) (log_place m.layout m.reuse)
-          m.layout.capacity (floor_of m) (slice_index m.words 0 - floor_of m) in
-          omega arith
+      place_within = grind (arith, common_steps, its_reads, its_frames, length-ring, slice_index)
 
       pub until_within : (now : Machine E) → m ≡ now → (place floor until : ℕ) (log : List ℕ)
           → place ≡ v.place → floor ≡ floor_of now → until ≡ place - floor → log ≡ log_of now
           → until ≤ length log
       until_within now is place floor until log place_is floor_are until_is log_is =
-          let within = subst (λ y. v.place - floor_of y ≤ length (log_of y)) is place_within in
-          let size = ap length log_is in
-          omega arith
+          grind (arith, common_steps, length, place_within)
 
     -- where no word of the log is used again, what stands below the place of a receiver is what it
     -- was given
@@ -439,7 +365,4 @@ module _ {E : Type 0} (X : Election E) (P : Protocol E (Unit {0}) ℕ) where
         let first = floor_first m flat in
         let its = stands f.frames there.0 f.sending.log.lawful
         (f.stands.1 ∙ ap (λ n. drop n T.log) first ∙ sym f.log_is) there.1 in
-        order_so order.entries (order_given (T.heard r)).entries order.ended
-        (order_given (T.heard r)).ended
-        (its.0 ∙ ap (λ (o : Order). o.entries) (sym (f.given r there.0 there.1)))
-        (its.1 ∙ sym (f.ends r there.0 there.1))
+        grind (arith, common_steps, order_so)

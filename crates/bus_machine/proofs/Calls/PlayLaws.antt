@@ -2,6 +2,7 @@
 use Rattle.std.proofs.Common.{Bool, ◌≡◌, ℕ, ◌≤◌, Option, Some, None, List, [], ◌∷◌, ◌++◌, arith}
 use Rattle.std.proofs.Common.{refl, sym, ◌∙◌, ap, slice_index, subst, append_assoc}
 use Rattle.std.proofs.lemmas.List.{append-nil}
+use Rattle.std.proofs.lemmas.Grind.{common_steps}
 use Rattle.bus_register.specs.Protocol.{Protocol}
 use Rattle.bus_adoptcommit.specs.declared.verdicts.Verdict.{Verdict}
 use Rattle.bus_tenure.specs.Core.{Election, Layout}
@@ -36,18 +37,12 @@ answered_more X P (f ∷ events) old mid new e a h w = (
 )
 
 longer_still : (T U V : Trails) → Longer T U → Longer U V → Longer T V
-longer_still T U V h k = record {
-  actions = λ q. prefix_after (T.actions q) (U.actions q) (V.actions q) (h.actions q) (k.actions q);
-  heard = λ q. prefix_after (T.heard q) (U.heard q) (V.heard q) (h.heard q) (k.heard q);
-}
+longer_still T U V h k = grind (arith, prefix_after)
 
 module _ {S : Type 0} (X : Election (Elector S)) (Q : Protocol S Bool Verdict) where
   run_same : (events : List Event) (old new : Machine (Elector S)) → AllAnswered X Q old events new
       → (new.layout ≡ old.layout) × (new.reuse ≡ old.reuse)
-  run_same [] old new run = (
-    ap (λ (y : Machine (Elector S)). y.layout) run,
-    ap (λ (y : Machine (Elector S)). y.reuse) run,
-  )
+  run_same [] old new run = grind (arith, common_steps)
   run_same (e ∷ events) old new run =
       let one = event_reuse X old run.0 e run.1 run.2.happens in
       let rest = run_same events run.0 new run.3 in (rest.0 ∙ one.0, rest.1 ∙ one.1)

@@ -1,9 +1,10 @@
 -- A turn in its three parts: the page comes home, the step is taken, the page is laid.
-use Rattle.std.proofs.Common.{◌≡◌, inl, inr, ℕ, ◌+◌, ◌<◌, ◌/◌, ◌==◌, Bool, true, false, cond}
-use Rattle.std.proofs.Common.{nat_le, length, Option, Some, None, List, refl, sym, ◌∙◌, ap, subst}
-use Rattle.std.proofs.Common.{slice_index}
-use Rattle.std.specs.Prelude.{◌⊎◌, IsSome, IfSome}
+use Rattle.std.proofs.Common.{◌≡◌, inl, inr, ℕ, ◌/◌, ◌==◌, Bool, true, false, cond, nat_le, length}
+use Rattle.std.proofs.Common.{Option, Some, None, List, refl, sym, ◌∙◌, ap, subst, slice_index}
+use Rattle.std.proofs.Common.{arith}
+use Rattle.std.specs.Prelude.{◌⊎◌, IsSome}
 use Rattle.std.proofs.lemmas.Bool.{true≢false}
+use Rattle.std.proofs.lemmas.Grind.{common_steps}
 use Rattle.bus_core.specs.Keeping.{core_without}
 use Rattle.bus_core.specs.Senders.{Sender, Situation, Does, Announces, Validates, Unpins}
 use Rattle.bus_core.specs.Senders.{Withdraws, Scans, Clears, ReadsPassed, situation}
@@ -25,15 +26,15 @@ use Rattle.bus_tenure.specs.Seen.{AwaitsItsPage}
 use Rattle.bus_tenure.specs.Situations.{Situation as Own, IsClosed, IsIdle, IsSpent, LooksAtStage}
 use Rattle.bus_tenure.specs.Situations.{Elects, TakesPage, AwaitsPage, StoresWord, StoresLength}
 use Rattle.bus_tenure.specs.Situations.{GivesBack, HasHanded, situation_of, PageMove, Stays, Comes}
-use Rattle.bus_tenure.specs.Situations.{Returns, waits, core_begun, core_elected}
-use Rattle.bus_tenure.specs.Situations.{core_floored, phase_floored}
+use Rattle.bus_tenure.specs.Situations.{Returns, core_begun, core_elected, core_floored}
+use Rattle.bus_tenure.specs.Situations.{phase_floored}
 use Rattle.bus_tenure.specs.declared.pages.Page.{Page}
 use Rattle.bus_tenure.specs.declared.phases.Phase.{Phase}
 use Rattle.bus_tenure.specs.declared.phases.Phase.TheVariants as phase
 use Rattle.bus_tenure.specs.declared.phases.Reason.{Reason}
 use Rattle.bus_tenure.specs.declared.turns.Turn.{Turn as Answered}
 use Rattle.bus_tenure.specs.declared.turns.Turn.TheVariants as turn
-use Rattle.bus_world.specs.Turning.{words_after, home_moved, before_step, after_step, laying}
+use Rattle.bus_world.specs.Turning.{home_moved, before_step, after_step, laying}
 use Rattle.bus_machine.proofs.Tenures.Own.{own_of}
 use Rattle.bus_machine.specs.Machine.{moved}
 use Rattle.bus_machine.specs.Telling.{StepTells}
@@ -143,14 +144,7 @@ module _ {E : Type 0} (X : Election E) (v : Sender E) where
 
     pub idle_step : (cells : List ℕ) (told : Answered) → (line_now X v).op word ≡ None
         → told ≡ rest_at (line_now X v) → HasStepped (line_now X v) cells word told cells v
-    idle_step cells told none rests =
-        let i = idle (situation X v) refl none in
-        record {
-          on_word = subst (λ o. IfSome o (λ q. register q < length cells)) (sym none) tt;
-          words_are = sym (ap (words_after cells) none);
-          sender_is = sym (i.0 _);
-          answer_is = rests ∙ sym (i.1 _);
-        }
+    idle_step cells told none rests = grind (arith, common_steps, idle, register, length)
 
     -- and for the reason that it answers it has nothing to do
     rest_tells : (AwaitsItsPage c.phase → ⊥) → (z : Situation E) → situation X v ≡ z
@@ -160,11 +154,7 @@ module _ {E : Type 0} (X : Election E) (v : Sender E) where
     rest_tells laid (Does IsClosed) i e w = elim w [ inl bad ↦ absurd cc | inr told ↦ told ]
     rest_tells laid (Does IsIdle) i e w = elim w [ inl bad ↦ absurd cc | inr told ↦ told ]
     rest_tells laid (Does IsSpent) i e w = elim w [ inl bad ↦ absurd cc | inr told ↦ told ]
-    rest_tells laid (Does (AwaitsPage t)) i e w = absurd (laid record {
-      tenure = t;
-      is = tells X c (AwaitsPage t)
-          (own_of c.layout.passers v.reuse (situation_of X c) (AwaitsPage t) i);
-    })
+    rest_tells laid (Does (AwaitsPage t)) i e w = grind (arith, common_steps, tells, own_of)
     rest_tells laid (Does (Elects t k)) i e w = absurd
         (placed c.layout v.reuse t (X.op k word)
         (goes t k (own_of c.layout.passers v.reuse (situation_of X c) (Elects t k) i)) e)
@@ -186,10 +176,7 @@ module _ {E : Type 0} (X : Election E) (v : Sender E) where
         → (line_now X v).op word ≡ None → told ≡ rest_at (line_now X v)
         → (told ≡ turn.Going) ⊎ RestTells v told
         → StepTells X cells v ((line_now X v).op word) word told
-    idle_tells laid cells told none rests says =
-        subst (λ o. StepTells X cells v o word told) (sym none) (subst (RestTells v) (sym rests)
-        (rest_tells laid (situation X v) refl none
-        (subst (λ t. (t ≡ turn.Going) ⊎ RestTells v t) rests says)))
+    idle_tells laid cells told none rests says = grind (arith, common_steps, rest_tells)
 
   -- a step that found this number tells of it what the sender tells
   pub step_tells : (word : ℕ) (cells : List ℕ) (o : Op) (got : ℕ) (told : Answered)
@@ -204,20 +191,8 @@ module _ {E : Type 0} (X : Election E) (v : Sender E) where
     same_lays = no_lay c.phase laid
 
     stage_lays : (got : ℕ) (r : Option Reuse) → laying (seen X c r got).core.phase ≡ Stays
-    stage_lays got None = by_tests (waits c got) (nat_le c.layout.rows (got / 2)) where
-      by_tests : (a b : Bool)
-          → laying
-          (cond a c (cond b (record c { least = got / 2 }) (core_begun X c (got / 2)))).phase
-          ≡ Stays
-      by_tests true b = same_lays
-      by_tests false true = same_lays
-      by_tests false false = refl
-    stage_lays got (Some r) = by_tests (waits c got) (nat_le c.layout.rows (got / 2)) where
-      by_tests : (a b : Bool)
-          → laying (cond a c (cond b (record c { least = got / 2 }) c)).phase ≡ Stays
-      by_tests true b = same_lays
-      by_tests false true = same_lays
-      by_tests false false = same_lays
+    stage_lays got None = grind (arith, common_steps, nat_le, same_lays)
+    stage_lays got (Some r) = grind (arith, common_steps, nat_le, same_lays)
 
     valid_lays : (t : ℕ) (a : Bool) → laying (cond a (core_begun X c t) c).phase ≡ Stays
     valid_lays t true = refl
@@ -225,15 +200,7 @@ module _ {E : Type 0} (X : Election E) (v : Sender E) where
 
     elected_lays : (t : ℕ) (e : E) (o : Option ℕ) → laying (core_elected c t e o).phase ≡ Stays
     elected_lays t e None = refl
-    elected_lays t e (Some o) = by_test (o == c.me) where
-      by_test : (a : Bool)
-          → laying (cond a (record c { phase = phase.Electing t e }) (record c {
-            queue = record c.queue { busy = false };
-            least = t + 1;
-            phase = phase.Resting;
-          })).phase ≡ Stays
-      by_test true = refl
-      by_test false = refl
+    elected_lays t e (Some o) = grind (arith, common_steps)
 
     passed_lays : (least : ℕ) (a : Bool)
         → laying (cond a (core_floored c least) c).phase ≡ Stays
@@ -249,11 +216,7 @@ module _ {E : Type 0} (X : Election E) (v : Sender E) where
     lays (Does (Elects t e)) i got word =
         elected_lays t (X.fed e got word) (X.owner (X.fed e got word))
     lays (Does (TakesPage t)) i got word = refl
-    lays (Does (AwaitsPage t)) i got word = absurd (laid record {
-      tenure = t;
-      is = tells X c (AwaitsPage t)
-          (own_of c.layout.passers v.reuse (situation_of X c) (AwaitsPage t) i);
-    })
+    lays (Does (AwaitsPage t)) i got word = grind (arith, common_steps, tells, own_of)
     lays (Does (StoresWord t page stored)) i got word = refl
     lays (Does (StoresLength t page stored)) i got word = refl
     lays (Does (GivesBack t page reason)) i got word = refl
@@ -299,23 +262,7 @@ module _ {E : Type 0} (X : Election E) (v : Sender E) where
           → HasTurned l cells home word told cells' (home_moved (laying now.core.phase) rest)
           (moved (laying now.core.phase) rest now)
       turned told cells' rest now at_home step' =
-          let step : HasStepped (record l { move = after_step l.move }) cells word told cells' now =
-          subst (λ k. HasStepped k cells word told cells' now) left step' in
-          let lays_so : laying now.core.phase ≡ after_step l.move =
-          ap (λ (w : Sender E). laying w.core.phase) step.sender_is
-          ∙ lays (situation X v) refl _ word in
-          record {
-            on_word = step.on_word;
-            words_are = step.words_are;
-            home_is =
-                ap (λ m. home_moved m rest) lays_so ∙ ap (home_moved (after_step l.move)) at_home
-                ∙ home_parts l.move home;
-            sender_is =
-                ap (λ m. moved m rest now) lays_so
-                ∙ ap (λ r. moved (after_step l.move) r now) at_home ∙ sender_parts l.move home now
-                ∙ ap (moved (after_step l.move) home) step.sender_is;
-            answer_is = step.answer_is;
-          }
+          grind (arith, common_steps, left, lays, home_parts, sender_parts)
 
       -- with what the page and the sender are then
       pub turned_as : (told : Answered) (cells' : List ℕ) (rest : Option Page) (now : Sender E)

@@ -1,6 +1,6 @@
 -- Where the page is, and who takes and holds it, by what senders, words and page always keep.
 use Rattle.std.proofs.Common.{◌≡◌, ℕ, ◌+◌, ◌*◌, true, is_some, Option, Some, None, List, refl, sym}
-use Rattle.std.proofs.Common.{◌∙◌, ap}
+use Rattle.std.proofs.Common.{◌∙◌, ap, arith}
 use Rattle.std.proofs.lemmas.Bool.{true≢false}
 use Rattle.bus_batch.specs.Frames.{Frame, has_end}
 use Rattle.bus_core.specs.Reusing.Keeping.{held_of}
@@ -21,6 +21,7 @@ use Rattle.bus_machine.specs.Promise.{IsPagedBy}
 use Rattle.bus_tenure.specs.declared.phases.Phase.{Phase}
 use Rattle.bus_tenure.specs.declared.phases.Phase.TheVariants as phase
 use Rattle.std.proofs.lemmas.Option.{same_Some}
+use Rattle.std.proofs.lemmas.Grind.{common_steps}
 
 -- what there is
 pub some_is : {A : Type 0} (o : Option A) → is_some o ≡ true → (a : A) × (o ≡ Some a)
@@ -72,9 +73,7 @@ module _ {base : ℕ → ℕ} {E : Type 0} (X : Election E) (P : Protocol E (Uni
         let f = tenures.finds_home X.op X.fed P laws x.senders x.rows 2 words (words 1)
         (is_some home) (λ q. of_some standing_of (senders q)) (λ q. least_of (senders q)) owners
         h.tenures p t k.0 runs own in
-        let page = at_home X P laws x ok width starts owner_is words home senders owners frames h p
-        c old 0 t k.0 k.1 o.0 o.1 in
-        (page.0, page.1, f.0)
+        grind (arith, common_steps, at_home)
 
     -- who holds it holds that of the tenure
     pub holds_page : held_of c.phase ≡ Some t → words 1 ≡ 2 * t + 1

@@ -26,14 +26,7 @@ module _ (words : ℕ → ℕ) (at capacity place : ℕ) where
         get_or_append_left (words_in_ring words at capacity place k)
         (words (at + (place + k) % capacity) ∷ []) 0 i
         (let size = length-ring k in omega arith) ∙ index-ring k i below
-    | inr past ↦
-        let size = length-ring k in
-        let e : i ≡ length (words_in_ring words at capacity place k) = omega arith in
-        let is : k ≡ i = omega arith in
-        ap (slice_index (words_in_ring words at capacity place k
-        ++ words (at + (place + k) % capacity) ∷ [])) e
-        ∙ last (words_in_ring words at capacity place k) (words (at + (place + k) % capacity))
-        ∙ ap (λ n. words (at + (place + n) % capacity)) is
+    | inr past ↦ grind (arith, common_steps, length-ring, length, slice_index, last)
   ] where
     last : (xs : List ℕ) (w : ℕ) → slice_index (xs ++ w ∷ []) (length xs) ≡ w
     last xs w = grind (arith, common_steps)

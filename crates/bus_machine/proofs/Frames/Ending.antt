@@ -1,14 +1,14 @@
 -- The end of the order and tenures that are past, by the frames of the log and by trails that have
 -- grown.
 use Rattle.std.specs.Prelude.{◌||◌}
-use Rattle.std.proofs.Common.{◌≡◌, ◌⊎◌, inl, inr, ℕ, zero, suc, ◌<◌, ◌≤◌, Bool, true, false, Some}
-use Rattle.std.proofs.Common.{List, [], ◌∷◌, ◌++◌, map, slice_get, arith, refl, sym, ◌∙◌, ap, subst}
+use Rattle.std.proofs.Common.{◌≡◌, ◌⊎◌, inl, inr, ℕ, zero, suc, ◌<◌, ◌≤◌, true, false, List, []}
+use Rattle.std.proofs.Common.{◌∷◌, ◌++◌, map, slice_get, arith, refl, sym, ◌∙◌, ap}
 use Rattle.std.proofs.lemmas.Bool.{or_right}
 use Rattle.std.proofs.lemmas.List.Folds.{list_any-append}
-use Rattle.std.specs.List.{list_any}
+use Rattle.std.proofs.lemmas.Grind.{common_steps}
 use Rattle.bus_batch.specs.Batches.{Pending, frame_of, body_of}
 use Rattle.bus_batch.specs.Frames.{Frame, Marked, Order, Spells, ends, leaves, has_end, has_gone}
-use Rattle.bus_batch.specs.Frames.{is_leave_of, order_of, tenure_and_owner}
+use Rattle.bus_batch.specs.Frames.{order_of, tenure_and_owner}
 use Rattle.bus_batch.specs.declared.batches.Phase.{Phase as BatchPhase}
 use Rattle.bus_batch.specs.declared.batches.Phase.TheVariants.{Open, Marking, Closed}
 use Rattle.bus_batch.specs.declared.messages.Mark.TheVariants as mark
@@ -16,13 +16,13 @@ use Rattle.bus_core.specs.Reusing.Telling.{HasPublished, Published, HandsOnSent,
 use Rattle.bus_core.specs.Reusing.Telling.{HandsOnEnd}
 use Rattle.bus_register.specs.Protocol.{Protocol}
 use Rattle.bus_deliverylog.specs.Orders.{IsPrefixOfOrder}
-use Rattle.bus_tenure.specs.Core.{Core, Layout, is_leaving}
+use Rattle.bus_tenure.specs.Core.{Core, is_leaving}
 use Rattle.bus_tenure.specs.declared.phases.Phase.{Phase}
 use Rattle.bus_tenure.specs.declared.phases.Phase.TheVariants as phase
 use Rattle.bus_world.proofs.LogLaws.{gone-append_owner}
 use Rattle.bus_world.proofs.Places.{got_before}
 use Rattle.bus_world.specs.Private.Sending.{Fits}
-use Rattle.bus_world.specs.Headline.{Action, Stepped, Elected, IsPrefix}
+use Rattle.bus_world.specs.Headline.{Action, Elected, IsPrefix}
 use Rattle.bus_machine.proofs.Frames.Framed.{IsFramed}
 use Rattle.bus_machine.proofs.Frames.Staying.{spells_more}
 use Rattle.bus_machine.specs.Machine.{Machine, Trails, stage_of}
@@ -39,9 +39,7 @@ has_end_last (g ∷ fs) f e = or_right (ends g.body) (has_end (fs ++ f ∷ [])) 
 -- of the last frame
 pub has_gone_last : (fs : List Frame) (f : Frame) → f.body ≡ Marked mark.Leave
     → has_gone f.owner.0 (order_of (fs ++ f ∷ [])) ≡ true
-has_gone_last fs f e =
-    gone-append_owner fs f
-    ∙ or_right (has_gone f.owner.0 (order_of fs)) (leaves f.body) (ap leaves e)
+has_gone_last fs f e = grind (arith, common_steps, gone-append_owner, or_right)
 
 -- of a frame by its batch
 leaving_frame : (ph : BatchPhase) (first : ℕ) (messages : List (List ℕ))
@@ -55,24 +53,14 @@ leaving_frame Closed first messages = refl
 gone_before : (front : List Frame) (q : Pending) (t : ℕ)
     → has_gone q.sender.0 (order_of (front ++ frame_of q t ∷ [])) ≡ true
     → (has_gone q.sender.0 (order_of front) ≡ true) ⊎ (is_leaving q.phase ≡ true)
-gone_before front q t e =
-    by (has_gone q.sender.0 (order_of front)) (sym (gone-append_owner front (frame_of q t)) ∙ e)
-  where
-    by : (b : Bool) → (b || leaves (body_of q.phase q.first q.messages)) ≡ true
-        → (b ≡ true) ⊎ (is_leaving q.phase ≡ true)
-    by true i = inl refl
-    by false i = inr (sym (leaving_frame q.phase q.first q.messages) ∙ i)
+gone_before front q t e = grind (arith, common_steps, gone-append_owner, leaving_frame)
 
 module _ (base : ℕ → ℕ) {E : Type 0} (V : ℕ → ℕ) (frames : List Frame) (c : Core E) (t : ℕ) where
   -- its frame is published, and is an end mark
   pub published_ends : (ph : Phase E) → HasPublished t ph → c.queue.phase ≡ Marking mark.End
       → Fits base V frames c ph
       → has_end frames ≡ true
-  published_ends ph (Published page stored) closing fits =
-      let w = fits.1 in
-      ap has_end w.frames_are
-      ∙ has_end_last w.front (frame_of c.queue t)
-      (ap (λ p. body_of p c.queue.first c.queue.messages) closing)
+  published_ends ph (Published page stored) closing fits = grind (arith, common_steps, has_end_last)
   published_ends ph HandsOnSent closing fits = absurd fits
 
   -- or its leave mark
@@ -80,10 +68,7 @@ module _ (base : ℕ → ℕ) {E : Type 0} (V : ℕ → ℕ) (frames : List Fram
       → Fits base V frames c ph
       → has_gone c.queue.sender.0 (order_of frames) ≡ true
   published_leaves ph (Published page stored) leaving fits =
-      let w = fits.1 in
-      ap (λ fs. has_gone c.queue.sender.0 (order_of fs)) w.frames_are
-      ∙ has_gone_last w.front (frame_of c.queue t)
-      (ap (λ p. body_of p c.queue.first c.queue.messages) leaving)
+      grind (arith, common_steps, has_gone_last)
   published_leaves ph HandsOnSent leaving fits = absurd fits
 
   -- whoever has left is closed, or has its leave mark published
@@ -119,13 +104,7 @@ pub ended_of :
 ended_of P m T f e = record {
   order = order_of f.frames;
   owners = map tenure_and_owner f.frames;
-  spelled = record {
-    frames = f.frames;
-    lawful = f.sending.log.lawful;
-    words_are = f.log_is;
-    order_is = refl;
-    owners_are = refl;
-  };
+  spelled = grind (arith, common_steps);
   ended = e;
 }
 
@@ -136,13 +115,7 @@ pub left_of : {E : Type 0} (P : Protocol E (Unit {0}) ℕ) (m : Machine E) (T : 
 left_of P m T f s e = record {
   order = order_of f.frames;
   owners = map tenure_and_owner f.frames;
-  spelled = record {
-    frames = f.frames;
-    lawful = f.sending.log.lawful;
-    words_are = f.log_is;
-    order_is = refl;
-    owners_are = refl;
-  };
+  spelled = grind (arith, common_steps);
   left = e;
 }
 
@@ -150,14 +123,7 @@ left_of P m T f s e = record {
 spelled_now : {E : Type 0} (P : Protocol E (Unit {0}) ℕ) (m m' : Machine E) (T' : Trails)
     → m'.layout ≡ m.layout → (f : IsFramed P m' T')
     → Spells m.layout.senders T'.log (order_of f.frames) (map tenure_and_owner f.frames)
-spelled_now P m m' T' layout f = record {
-  frames = f.frames;
-  lawful = subst (λ (x : Layout). Rattle.bus_batch.specs.Frames.AreFrames x.senders f.frames) layout
-      f.sending.log.lawful;
-  words_are = f.log_is;
-  order_is = refl;
-  owners_are = refl;
-}
+spelled_now P m m' T' layout f = grind (arith, common_steps)
 
 -- an order that has ended stays so, where more is published
 pub still_ended : {E : Type 0} (P : Protocol E (Unit {0}) ℕ) (m m' : Machine E) (T T' : Trails)
@@ -172,9 +138,7 @@ still_ended P m m' T T' layout f grows h =
 -- whoever has left in an order has left in one that it begins
 gone_more : (s : ℕ) (order order' : Order) → IsPrefixOfOrder order order' → has_gone s order ≡ true
     → has_gone s order' ≡ true
-gone_more s order order' p e =
-    ap (list_any (is_leave_of s)) p.entries ∙ list_any-append (is_leave_of s) order.entries p.later
-    ∙ ap (λ b. b || list_any (is_leave_of s) p.later) e
+gone_more s order order' p e = grind (arith, common_steps, list_any-append)
 
 -- so it has left where more is published
 pub still_left : {E : Type 0} (P : Protocol E (Unit {0}) ℕ) (m m' : Machine E) (T T' : Trails)
@@ -189,15 +153,7 @@ still_left P m m' T T' s layout f grows h =
 -- ---- tenures that are past
 -- who saw an election end has seen so by more actions
 pub elected_more : (D D' : List Action) (t o : ℕ) → IsPrefix D D' → Elected D t o → Elected D' t o
-elected_more D D' t o more e = record {
-  place = e.place;
-  step = e.step;
-  found = e.found;
-  answer = e.answer;
-  at = (let d = Stepped (Some t) e.step e.found (Some o) e.answer in
-      subst (λ l. slice_get l e.place ≡ Some d) more.together
-      (got_before D more.rest e.place d e.at));
-}
+elected_more D D' t o more e = grind (arith, common_steps, slice_get, got_before)
 
 -- a tenure that is lost stays lost
 pub lost_more : (stage stage' s : ℕ) (D D' : List Action) (t : ℕ) → stage ≤ stage' → IsPrefix D D'

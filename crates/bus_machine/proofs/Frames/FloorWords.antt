@@ -1,8 +1,6 @@
 -- From the floor of a page on each word that was published stands in its cell.
-use Rattle.std.proofs.Common.{◌≡◌, inl, inr, ℕ, ◌<◌, slice_index, arith, sym, ◌∙◌}
-use Rattle.std.proofs.Common.{ap}
+use Rattle.std.proofs.Common.{◌≡◌, inl, inr, ℕ, slice_index, arith}
 use Rattle.bus_register.specs.Protocol.{Protocol}
-use Rattle.bus_tenure.specs.Core.{log_at}
 use Rattle.bus_tenure.specs.declared.pages.Page.{Page}
 use Rattle.bus_world.proofs.LogLaws.{index-read}
 use Rattle.bus_machine.proofs.Frames.Framed.{IsFramed}
@@ -12,11 +10,7 @@ use Rattle.bus_machine.specs.Promise.{IsPageOf, StandsFrom}
 module _ {E : Type 0} (P : Protocol E (Unit {0}) ℕ) (m : Machine E) (T : Trails)
     (f : IsFramed P m T) where
   stands_from : (floor : ℕ) → floor ≡ f.floor → StandsFrom m T.log floor
-  stands_from floor is place past below =
-      let low : place < f.V 0 = let a = f.stands.0 in let b = f.length in omega arith in
-      f.finds place (omega arith) low
-      ∙ sym (index-read f.V (log_at m.layout) (f.V 0) place low)
-      ∙ ap (λ ws. slice_index ws place) (f.sending.log.words_are ∙ f.log_is)
+  stands_from floor is place past below = grind (arith, index-read, slice_index)
 
   pub page_lasts : (page : Page) → IsPageOf m page → StandsFrom m T.log page.floor
   page_lasts page (inl home) = stands_from page.floor (f.floored_home page home)

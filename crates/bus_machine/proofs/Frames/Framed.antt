@@ -7,20 +7,20 @@ use Rattle.std.specs.Prelude.{option_map}
 use Rattle.std.proofs.Math.Nat.{mod-eq_of_lt}
 use Rattle.std.proofs.lemmas.Bool.{cases_lt, ltb-true}
 use Rattle.std.proofs.lemmas.Option.{slice_get-map, same_Some}
+use Rattle.std.proofs.lemmas.Grind.{common_steps}
 use Rattle.bus_batch.proofs.FrameLaws.{spells_one}
 use Rattle.bus_batch.specs.Frames.{Frame, log_words, order_of, tenure_and_owner}
 use Rattle.bus_core.proofs.Situated.{own_is}
 use Rattle.bus_core.specs.Reusing.Keeping.{held_of}
 use Rattle.bus_core.specs.Table.{line, line_now, in_row}
 use Rattle.bus_core.specs.declared.limits.TheConstants.{PASSED_APART}
-use Rattle.bus_core.specs.declared.reuses.Passing.{Passing}
 use Rattle.bus_core.specs.declared.reuses.Reuse.{Reuse}
 use Rattle.bus_core.specs.Senders.{Sender, Does, Clears, log_start, situation}
 use Rattle.bus_core.specs.Private.Bridge.{with_a_row_each, reuse_of}
 use Rattle.bus_machine.proofs.Tenures.Clearing.{clearing, spared}
 use Rattle.bus_core.specs.Reusing.Participants.{log_from, passed_from, sizes_with}
 use Rattle.bus_core.specs.Private.ParticipantTable.{place_for}
-use Rattle.bus_core.specs.Reusing.Turns.{Participant, on_place}
+use Rattle.bus_core.specs.Reusing.Turns.{Participant}
 use Rattle.bus_deliverylog.specs.Receiving.{Receiving}
 use Rattle.bus_deliverylog.specs.Orders.{of_sender}
 use Rattle.bus_deliverylog.specs.declared.receiving.RecvTurn.{RecvTurn}
@@ -150,40 +150,24 @@ pub record IsFramed {E : Type 0} (P : Protocol E (Unit {0}) ℕ) (m : Machine E)
 
 heard_end : (frames : List Frame) (v : Receiving) (trail : List RecvTurn) → Hears frames v trail
     → (order_given trail).ended ≡ v.ended
-heard_end frames v trail h = by v.ended refl where
-  by : (b : Bool) → v.ended ≡ b → (order_given trail).ended ≡ v.ended
-  by true e = h.ended e ∙ sym e
-  by false e = h.going e ∙ sym e
+heard_end frames v trail h = grind (arith, common_steps)
 
 -- ---- the log
 -- where no word of the log is used again it stands from its first word on
 pub floor_first : {E : Type 0} (m : Machine E) → m.layout.passers ≡ 0 → floor_of m ≡ 0
-floor_first m flat =
-    ap (λ n. floor_shown (slice_index m.words) (passers_place m.layout m.reuse) n
-    (slice_index m.words 0)) flat
+floor_first m flat = cc
 
 -- so it is read straight
 pub log_straight : {E : Type 0} (m : Machine E) → m.layout.passers ≡ 0
     → slice_index m.words 0 ≤ m.layout.capacity
     → log_of m
     ≡ words_read_from (slice_index m.words) (log_place m.layout m.reuse) (slice_index m.words 0)
-log_straight m flat few =
-    ap (λ k. words_in_ring (slice_index m.words) (log_place m.layout m.reuse) m.layout.capacity k
-    (slice_index m.words 0 - k)) (floor_first m flat)
-    ∙ ap
-    (λ n. words_in_ring (slice_index m.words) (log_place m.layout m.reuse) m.layout.capacity 0 n)
-    (let all : slice_index m.words 0 - 0 ≡ slice_index m.words 0 = omega arith in all)
-    ∙ ring_straight (slice_index m.words) (log_place m.layout m.reuse) m.layout.capacity
-    (slice_index m.words 0) few
+log_straight m flat few = grind (arith, common_steps, slice_index, floor_first, ring_straight)
 
 -- where no word of the log is used again what was published is read from the words below the length
 pub read_below : {E : Type 0} (P : Protocol E (Unit {0}) ℕ) (m : Machine E) (T : Trails)
     → IsFramed P m T → StandsBelow m T.log
-read_below P m T f flat =
-    let fits = f.sending.log.fits flat in
-    let same = f.length in
-    let few : slice_index m.words 0 ≤ m.layout.capacity = omega arith in
-    sym (log_straight m flat few) ∙ f.stands.1 ∙ ap (λ n. drop n T.log) (floor_first m flat)
+read_below P m T f flat = grind (arith, common_steps, slice_index, log_straight, drop, floor_first)
 
 -- the cell at the place of a receiver that has not left has the word that was published there
 pub finds_words : {E : Type 0} (P : Protocol E (Unit {0}) ℕ) (m : Machine E) (T : Trails)
@@ -192,12 +176,7 @@ pub finds_words : {E : Type 0} (P : Protocol E (Unit {0}) ℕ) (m : Machine E) (
     → slice_index m.words (v.log_at + v.place % v.log_words) ≡ slice_index T.log v.place
 finds_words P m T f r v at stays below =
     let its = f.reads r v at in
-    let low : v.place < f.V 0 = let a = f.stands.0 in let b = f.length in omega arith in
-    ap (λ n. slice_index m.words (n + v.place % v.log_words)) its.0
-    ∙ ap (λ n. slice_index m.words (log_place m.layout m.reuse + v.place % n)) its.1.log_words
-    ∙ f.finds v.place (let a = its.3 stays in let b = f.low in omega arith) low
-    ∙ sym (index-read f.V (log_at m.layout) (f.V 0) v.place low)
-    ∙ ap (λ ws. slice_index ws v.place) (f.sending.log.words_are ∙ f.log_is)
+    grind (arith, slice_index, index-read)
 
 -- so its load finds that
 pub loads_words : {E : Type 0} (P : Protocol E (Unit {0}) ℕ) (m : Machine E) (T : Trails)
@@ -227,20 +206,12 @@ least_below words at len (suc k) r low =
         | inl below ↦
             (let more = least_below words at len k r below in
             let is = a.0 in let less = a.1 in omega arith)
-        | inr past ↦
-            (let same : k ≡ r = omega arith in
-            let is = a.0 in
-            subst (λ q. least_passed words at (suc k) len ≤ words (at + PASSED_APART * q)) same
-            (omega arith))
+        | inr past ↦ grind (arith, common_steps)
       ])
       | inr b ↦ (elim (cases_lt r k) [
         | inl below ↦
             (let more = least_below words at len k r below in let is = b.0 in omega arith)
-        | inr past ↦
-            (let same : k ≡ r = omega arith in
-            let is = b.0 in let less = b.1 in
-            subst (λ q. least_passed words at (suc k) len ≤ words (at + PASSED_APART * q)) same
-            (omega arith))
+        | inr past ↦ grind (arith, common_steps)
       ])
     ]
 
@@ -286,9 +257,7 @@ module _ {E : Type 0} (X : Election E) (P : Protocol E (Unit {0}) ℕ) where
         → (slice_get b.side.senders p ≡ Some v.core)
         × (v.reuse ≡ None)
     core_at p v at =
-        let c = made_there with_a_row_each (slice_get b.side.senders p) v
-        (sym (slice_get-map with_a_row_each b.side.senders p) ∙ at) in
-        (c.1 ∙ ap (λ (y : Sender E). Some y.core) (sym c.2), ap (λ (y : Sender E). y.reuse) c.2)
+        grind (arith, common_steps, made_there, with_a_row_each, slice_get, slice_get-map)
 
     -- and its receivers are those of the bus
     reads_at : (r : ℕ) (v : Receiving) → slice_get b.receivers r ≡ Some v
@@ -337,9 +306,7 @@ module _ {E : Type 0} (X : Election E) (P : Protocol E (Unit {0}) ℕ) where
         → page.floor ≡ 0
     floored_at p v t page stored published at held =
         let part = k.lawful.keeps.sending.parts p v.core (core_at p v at).0 in
-        held_flat (slice_index bases) (slice_index b.side.words) k.frames v.core t page stored
-        published (ap (λ (l : Layout). l.passers) part.layout ∙ flat)
-        (subst (Fits (slice_index bases) (slice_index b.side.words) k.frames v.core) held part.fits)
+        grind (arith, common_steps, held_flat, slice_index, k)
 
     -- the bus with a row for each tenure is framed
     pub framed_at_none : IsFramed P (of_bus bases x b) T
@@ -369,10 +336,7 @@ module _ {E : Type 0} (X : Election E) (P : Protocol E (Unit {0}) ℕ) where
       );
       starts = λ p v at. ap (log_start x) (core_at p v at).1;
       rows = λ p v at. ap rows_in (core_at p v at).1;
-      puts = λ p v at.
-          k.tied.puts p
-          ∙ ap (λ o. map (λ i. i.message) (of_sender p (order_of k.frames)) ++ waiting_of o)
-          (core_at p v at).0;
+      puts = λ p v at. grind (arith, k, map, waiting_of, core_at);
       log_is = k.log_is;
       stands = shows_at_none;
       length = refl;
@@ -380,10 +344,7 @@ module _ {E : Type 0} (X : Election E) (P : Protocol E (Unit {0}) ℕ) where
       found = λ p t v e o q at runs low from to is. ap (λ w. slice_index b.side.words (register w))
           (sym (same_Some _ _ (subst (λ r. in_row x r t (Some o) ≡ Some q) (core_at p v at).1 is)));
       reads = reads_at;
-      passes = λ r v at. (
-        (k.lawful.keeps.never r v at).never ∙ sym (passed_first x None r flat),
-        λ place is. absurd (none_passed r place (nat_lt r x.passers) refl is),
-      );
+      passes = λ r v at. grind (arith, common_steps, k, passed_first, none_passed, nat_lt);
       heard = λ r v place at is stays. absurd
           (none_passed r place (nat_lt r x.passers) refl is);
       given = λ r v at. (k.tied.heard r v at).given_is;
@@ -411,9 +372,7 @@ module _ {E : Type 0} (X : Election E) (P : Protocol E (Unit {0}) ℕ) where
     kept = protocol_kept X P rows m T q sits.ok two l
 
     keeps : IsKeptProtocol X m.layout rows y T.pins T.actions T.heard T.log
-    keeps = protocol_promised X P q.laws m.layout sits.ok q.width q.starts q.owner_is q.named
-        q.announces q.apart rows two y T.pins
-        T.actions T.heard T.log l.led
+    keeps = grind (arith, common_steps, protocol_promised, two)
 
     -- where its log begins
     place_is : log_place m.layout m.reuse ≡ log_from m.layout rows
@@ -450,17 +409,7 @@ module _ {E : Type 0} (X : Election E) (P : Protocol E (Unit {0}) ℕ) where
         let pinned = (kept.kept.participants p v.core (ap core_in at)).electing t e runs in
         let live = alive_pinned sizes two y.reclamation T.pins
         (reclamation_keeps sizes two y.reclamation T.pins kept.kept.reached) p t pinned in
-        let f : ℕ → ℕ =
-        λ place. row_of (sizes_with m.layout u.0.rows) t + (place - row_at m.layout t) in
-        let due : Some (on_place f o) ≡ Some d =
-        subst (λ (w : Sender E). in_row m.layout w.reuse t (Some o) ≡ Some d) u.1 is in
-        let place : row_at m.layout t + (register o - row_at m.layout t) ≡ register o =
-        omega arith in
-        let within : register o - row_at m.layout t < m.layout.width = omega arith in
-        ap (λ w. slice_index m.words (register w)) (sym (same_Some _ _ due))
-        ∙ ap (slice_index m.words) (same_register f o
-        ∙ ap (λ r. row_of (sizes_with m.layout r) t + (register o - row_at m.layout t)) u.2)
-        ∙ kept.kept.laid.row t (register o - row_at m.layout t) below within live ∙ ap kept.V place
+        grind (arith, common_steps, register, slice_index, same_Some, same_register, kept)
 
     -- ---- its log
     -- as many words were published as the length says
@@ -474,25 +423,11 @@ module _ {E : Type 0} (X : Election E) (P : Protocol E (Unit {0}) ℕ) where
     finds_some : (place : ℕ) → kept.kept.floor ≤ place → place < kept.V 0
         → slice_index m.words (log_from m.layout rows + place % m.layout.capacity)
         ≡ kept.V (log_at m.layout + place)
-    finds_some place past below =
-        let low = kept.kept.stored.low in
-        found_there m.layout rows y.reclamation kept.V kept.kept.W kept.kept.floor place
-        kept.kept.laid kept.kept.stored.few past (omega arith)
+    finds_some place past below = grind (arith, common_steps, kept, found_there)
 
     -- so the log shows what was published
     ring : ShowsRing m.layout rows (slice_index m.words) kept.frames T.log kept.kept.floor
-    ring = record {
-      long = kept.kept.laid.length ∙ sym long;
-      low = let a = kept.kept.floors.low in let b = long in omega arith;
-      none = kept.kept.floors.none;
-      stands = λ place past below.
-          let low : place < kept.V 0 = let a = long in omega arith in
-          finds_some place past low
-          ∙ sym (index-read kept.V (log_at m.layout) (kept.V 0) place low)
-          ∙ ap (λ ws. slice_index ws place) (kept.kept.sending.log.words_are ∙ kept.kept.log_is);
-      behind = kept.kept.floors.behind;
-      edges = kept.kept.floors.edges;
-    }
+    ring = grind (arith, common_steps, kept, long, finds_some, index-read, slice_index)
 
     few : length T.log < 2 ^ 48
     few = subst (λ ws. length ws < 2 ^ 48) kept.kept.log_is
@@ -528,42 +463,11 @@ module _ {E : Type 0} (X : Election E) (P : Protocol E (Unit {0}) ℕ) where
     -- a passed place lies before the log
     passed_low : (r : ℕ) (v : Receiving) → slice_get m.receivers r ≡ Some v → (place : ℕ)
         → v.passed_at ≡ Some place → place < log_from m.layout rows
-    passed_low r v at place is =
-        by (nat_lt r m.layout.passers) refl (sym (kept.kept.floors.each r v at).at ∙ is)
-      where
-        by : (b : Bool) → nat_lt r m.layout.passers ≡ b
-            → cond {A = Option ℕ} b (Some (passed_place m.layout rows r)) None ≡ Some place
-            → place < log_from m.layout rows
-        by false e i = absurd cc
-        by true e i =
-            let low = ltb-true r m.layout.passers e in
-            let same : passed_place m.layout rows r ≡ place = same_Some _ _ i in omega arith
+    passed_low r v at place is = grind (arith, common_steps, nat_lt, kept, ltb-true, same_Some)
 
     -- and shows what its receiver has passed, or that it has left
     passes_some : ShowsPassed m
-    passes_some r v at = (
-      its.at ∙ ap (λ o. passed_by m.layout o r) (sym l.reuse),
-      λ place is.
-          by place (nat_lt r m.layout.passers) refl
-          (subst (λ o. passed_by m.layout o r ≡ Some place) l.reuse is),
-    )
-      where
-        its : IsPasser m.layout rows (slice_index m.words) kept.kept.floor r v
-        its = kept.kept.floors.each r v at
-
-        shows : r < m.layout.passers → (gone : Bool) → v.gone ≡ gone
-            → slice_index m.words (passed_place m.layout rows r)
-            ≡ cond gone PASSED_ALL v.passed
-        shows low true left = its.left left low
-        shows low false stays = its.shows stays low
-
-        by : (place : ℕ) (b : Bool) → nat_lt r m.layout.passers ≡ b
-            → cond {A = Option ℕ} b (Some (passed_place m.layout rows r)) None ≡ Some place
-            → slice_index m.words place ≡ cond v.gone PASSED_ALL v.passed
-        by place false e i = absurd cc
-        by place true e i =
-            ap (slice_index m.words) (sym (same_Some _ _ i))
-            ∙ shows (ltb-true r m.layout.passers e) v.gone refl
+    passes_some r v at = grind (arith, common_steps, nat_lt, slice_index, kept, same_Some, ltb-true)
 
     -- of one that has not left that is no place past its own, and one where a frame begins
     heard_some : (r : ℕ) (v : Receiving) (place : ℕ) → slice_get m.receivers r ≡ Some v
@@ -624,10 +528,7 @@ module _ {E : Type 0} (X : Election E) (P : Protocol E (Unit {0}) ℕ) where
         let from = passed_from m.layout rows in
         let past = its.past in
         subst (λ o. floor_with o ≤ v.place) (sym l.reuse) (elim its.many [
-          | inl none ↦
-              (let first : floor_with (Some rows) ≡ 0 =
-              ap (λ n. floor_shown (slice_index m.words) from n (slice_index m.words 0)) none in
-              omega arith)
+          | inl none ↦ grind (arith, common_steps, slice_index)
           | inr low ↦
               (let shown = its.shows stays low in
               let below = shown_below (slice_index m.words) from (slice_index m.words 0)
@@ -663,32 +564,16 @@ module _ {E : Type 0} (X : Election E) (P : Protocol E (Unit {0}) ℕ) where
       floored_home = kept.kept.stored.floor_home;
       floored = λ p v t page stored published at held.
           kept.kept.stored.floor_held p t page stored published v.core (ap core_in at) held;
-      finds = λ place past below.
-          ap (λ n. slice_index m.words (n + place % m.layout.capacity)) place_is
-          ∙ finds_some place past below;
+      finds = λ place past below. grind (arith, common_steps, slice_index, place_is, finds_some);
       edge = floor_some.1;
-      passed = λ r low. subst
-          (λ o. kept.kept.floor
-          ≤ slice_index m.words (passers_place m.layout o + PASSED_APART * r))
-          (sym l.reuse) (kept.kept.floors.behind r low);
-      least = λ p v r t at again held.
-          let same = ap (λ (q : Passing). q.least)
-          (sym (ap passing_in again) ∙ l.passed p v t at held) in
-          let low = kept.kept.floors.least in omega arith;
+      passed = λ r low. grind (arith, common_steps, kept, slice_index);
+      least = λ p v r t at again held. grind (arith, common_steps, passing_in, kept);
       sending = kept.kept.sending;
       core_of = λ p v at. ap core_in at;
       sender_of = λ p c at. sender_there p c (slice_get m.senders p) refl at;
-      starts = λ p v at.
-          let u = l.participants p v at in
-          ap (λ (w : Sender E). log_start m.layout w.reuse) u.1 ∙ ap (log_from m.layout) u.2
-          ∙ sym place_is;
-      rows = λ p v at.
-          let u = l.participants p v at in
-          ap (λ (w : Sender E). rows_in w.reuse) u.1 ∙ ap Some u.2 ∙ sym l.reuse;
-      puts = λ p v at.
-          kept.kept.notes.put p
-          ∙ ap (λ o. map (λ i. i.message) (of_sender p (order_of kept.frames)) ++ waiting_of o)
-          (ap core_in at);
+      starts = λ p v at. grind (arith, common_steps, place_is);
+      rows = λ p v at. grind (arith, common_steps);
+      puts = λ p v at. grind (arith, common_steps, kept, map, waiting_of, core_in);
       log_is = kept.kept.log_is;
       stands = shows_some;
       length = kept.kept.laid.length;
@@ -701,11 +586,7 @@ module _ {E : Type 0} (X : Election E) (P : Protocol E (Unit {0}) ℕ) where
       ends = λ r v at. heard_end kept.frames (placed m.layout v) (T.heard r)
           (kept.kept.hears.each r v at).hears;
       takers = keeps.by.takers;
-      promises = subst
-          (λ o. Promises (base_of m) T.actions T.heard o (map tenure_and_owner kept.frames))
-          order_same.0
-          (subst (Promises (base_of m) T.actions T.heard keeps.order) order_same.1
-          keeps.by.promises);
+      promises = grind (arith, common_steps, map, kept, order_same, keeps);
     }
 
     -- ---- its rows
@@ -732,17 +613,7 @@ module _ {E : Type 0} (X : Election E) (P : Protocol E (Unit {0}) ℕ) where
             → (row_of sizes t ≤ register o) × (register o < row_of sizes t + m.layout.width)
         by u there layout same_rows runs None n q = absurd cc
         by u there layout same_rows runs (Some w) n q =
-            let f = place_for {E = E} u.core.layout u.rows (Elects t e) in
-            let same : f ≡ place_for m.layout rows (Elects t e) =
-            ap (λ g. place_for g u.rows (Elects t e)) layout
-            ∙ ap (λ r. place_for m.layout r (Elects t e)) same_rows in
-            let where_is : register o ≡ place_for m.layout rows (Elects t e) (register w) =
-            sym (ap register (same_Some _ _ q))
-            ∙ same_register f w ∙ ap (λ g. g (register w)) same in
-            let row = keeps.by.within p u.core t e word w there runs n in (
-              subst (λ n. row_of sizes t ≤ n) (sym where_is) row.0,
-              subst (λ n. n < row_of sizes t + m.layout.width) (sym where_is) row.1,
-            )
+            grind (arith, common_steps, place_for, register, same_Some, same_register, keeps)
 
     -- no step clears a word of a row in which anybody stands
     spares : (p q t place word : ℕ) (v : Sender E) (s : Reclaiming) (o : Op)
@@ -793,8 +664,4 @@ module _ {E : Type 0} (X : Election E) (P : Protocol E (Unit {0}) ℕ) where
   -- and its rows are used again as is promised
   pub reuses : (m : Machine E) (T : Trails) → Sits X P m → Reached X m T
       → ReusesSafely X m T m.reuse
-  reuses m T s r = by m.reuse refl where
-    by : (o : Option ℕ) → m.reuse ≡ o → ReusesSafely X m T m.reuse
-    by None e = subst (ReusesSafely X m T) (sym e) tt
-    by (Some rows) e =
-        subst (ReusesSafely X m T) (sym e) (reuses_at_some m T s rows (led_some X P m T s r rows e))
+  reuses m T s r = grind (arith, common_steps, reuses_at_some, led_some)

@@ -1,20 +1,19 @@
 -- With each event what was published grows by the words that join it, which are those of a frame or
 -- none.
-use Rattle.std.proofs.Common.{◌≡◌, ℕ, Option, ◌++◌, refl, sym, ◌∙◌, ap}
+use Rattle.std.proofs.Common.{◌≡◌, ℕ, ◌++◌, refl, sym, arith}
 use Rattle.std.proofs.lemmas.List.{append-nil}
+use Rattle.std.proofs.lemmas.Grind.{common_steps}
 use Rattle.bus_tenure.specs.Core.{Election}
 use Rattle.bus_tenure.specs.declared.turns.Turn.{Turn as Answered}
-use Rattle.bus_core.specs.Senders.{Sender, Situation, Does, Announces, Validates, Unpins}
-use Rattle.bus_core.specs.Senders.{Withdraws, Scans, Clears, ReadsPassed, situation}
-use Rattle.bus_core.specs.Table.{Line, line_now}
+use Rattle.bus_core.specs.Senders.{Situation, Does, Announces, Validates, Unpins, Withdraws, Scans}
+use Rattle.bus_core.specs.Senders.{Clears, ReadsPassed}
+use Rattle.bus_core.specs.Table.{Line}
 use Rattle.bus_world.specs.Headline.{IsPrefix}
-use Rattle.bus_world.specs.Log.{words_of_frame}
 use Rattle.bus_world.specs.World.{Event, Put, Ask, Turn, Recv, Stop, Gone}
 use Rattle.bus_world.specs.declared.events.Answer.{Answer}
-use Rattle.bus_world.specs.declared.events.Answer.TheVariants as answer
-use Rattle.bus_machine.specs.Machine.{Machine, Trails, Happens, trails_grown, turn_answer}
-use Rattle.bus_machine.specs.Machine.{turn_grown, turn_trails, found, going, log_grown}
-use Rattle.bus_machine.specs.Promise.{words_joined, frame_next}
+use Rattle.bus_machine.specs.Machine.{Machine, Trails, Happens, trails_grown, turn_trails}
+use Rattle.bus_machine.specs.Machine.{log_grown}
+use Rattle.bus_machine.specs.Promise.{words_joined}
 
 -- what a turn adds to the log is what its line publishes, in each situation
 pub turn_log :
@@ -35,14 +34,7 @@ pub joins :
     → Happens X m e a m' → (trails_grown X m e a T).log ≡ T.log ++ words_joined X m e
 joins X m m' (Put s bytes) a T h = sym (append-nil T.log)
 joins X m m' (Ask s mark) a T h = sym (append-nil T.log)
-joins {E} X m m' (Turn s word) a T h =
-    ap (λ b. (turn_grown X m s (going m s) word b T).log) h.answered
-    ∙ ap
-    (λ (o : Option (Sender E)).
-    (turn_grown X m s o word (answer.Turn (turn_answer m (line_now X h.sender) word)) T).log) h.goes
-    ∙ turn_log (situation X h.sender) (line_now X h.sender) s (found m (line_now X h.sender) word)
-    word (turn_answer m (line_now X h.sender) word) T
-    ∙ ap (λ (o : Option (Sender E)). T.log ++ words_of_frame (frame_next X o)) (sym h.goes)
+joins {E} X m m' (Turn s word) a T h = grind (arith, common_steps, turn_log)
 joins X m m' (Recv r) a T h = sym (append-nil T.log)
 joins X m m' (Stop s) a T h = sym (append-nil T.log)
 joins X m m' (Gone r) a T h = sym (append-nil T.log)

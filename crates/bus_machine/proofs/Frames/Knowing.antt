@@ -1,36 +1,34 @@
 -- What the page knows, who has it while it is out, and where a word of the log is stored, by the
 -- frames of the log.
-use Rattle.std.proofs.Common.{◌≡◌, ℕ, ◌+◌, ◌*◌, ◌%◌, Bool, true, false, is_some, Option, Some, None}
+use Rattle.std.proofs.Common.{◌≡◌, ℕ, ◌+◌, ◌*◌, Bool, true, false, is_some, Option, Some, None}
 use Rattle.std.proofs.Common.{List, length, map, slice_get, slice_index, refl, sym, ◌∙◌, ap, subst}
 use Rattle.std.proofs.Common.{arith, cond, [], ◌++◌}
 use Rattle.std.proofs.lemmas.Bool.{true≢false}
 use Rattle.std.proofs.lemmas.List.{append-nil, length-append}
 use Rattle.std.proofs.lemmas.Option.{same_Some}
+use Rattle.std.proofs.lemmas.Grind.{common_steps}
 use Rattle.bus_batch.proofs.FrameLaws.{spells_one}
 use Rattle.bus_batch.specs.Batches.{frame_of}
 use Rattle.bus_batch.specs.Frames.{Order, Spells, AreFrames, order_of, log_words, tenure_and_owner}
 use Rattle.bus_batch.specs.Frames.{frame_words, has_gone}
-use Rattle.bus_core.proofs.Situated.{own_is, situation_tells, SituationTells}
+use Rattle.bus_core.proofs.Situated.{own_is, situation_tells}
 use Rattle.bus_core.specs.Reusing.Keeping.{held_of}
 use Rattle.bus_core.specs.Senders.{Sender, Does, ReadsPassed, log_start, situation}
-use Rattle.bus_core.specs.declared.reuses.Reuse.{Reuse}
 use Rattle.bus_core.specs.declared.reuses.Passing.{Passing}
-use Rattle.bus_core.specs.Table.{line, line_now}
+use Rattle.bus_core.specs.Table.{line_now}
 use Rattle.bus_machine.proofs.Tenures.PagesTaken.{takers_one}
 use Rattle.bus_deliverylog.specs.Orders.{of_sender}
 use Rattle.bus_register.specs.Protocol.{Protocol}
 use Rattle.bus_register.specs.Tables.{of_some}
 use Rattle.bus_register.specs.Words.{register}
 use Rattle.bus_register.specs.declared.registers.Op.{Op}
-use Rattle.bus_register.specs.declared.registers.Op.TheVariants.{Store}
 use Rattle.bus_register.specs.declared.registers.SenderNo.{SenderNo}
 use Rattle.bus_tenure.proofs.Caused.{word_room}
 use Rattle.bus_tenure.proofs.Situated.{tells}
-use Rattle.bus_tenure.specs.Core.{Core, Election, Layout, log_at, cell_of, frame_len}
-use Rattle.bus_tenure.specs.Situations.{StoresWord, GivesBack, situation_at, situation_of}
+use Rattle.bus_tenure.specs.Core.{Core, Election, Layout, log_at, frame_len}
+use Rattle.bus_tenure.specs.Situations.{StoresWord, situation_at, situation_of}
 use Rattle.bus_tenure.specs.declared.pages.Page.{Page}
 use Rattle.bus_tenure.specs.declared.phases.Phase.{Phase}
-use Rattle.bus_tenure.specs.declared.phases.Reason.TheVariants.{NoRoom}
 use Rattle.bus_tenure.specs.declared.phases.Phase.TheVariants as phase
 use Rattle.bus_world.proofs.Framing.{front_lawful}
 use Rattle.bus_world.proofs.LogLaws.{length-read, log_words-append}
@@ -62,26 +60,13 @@ module _ (base : ℕ → ℕ) {E : Type 0} (words : ℕ → ℕ)
   page_held t (phase.Electing u f) fits e = absurd cc
   page_held t (phase.Taken u) fits e = absurd fits
   page_held t (phase.Holding u page stored published) fits e =
-      record {
-        page = page;
-        stored = stored;
-        published = published;
-        has = ap (λ n. phase.Holding n page stored published)
-            (same_Holding u t e);
-      }
+      grind (arith, common_steps, same_Holding)
   page_held t (phase.Giving u reason) fits e = absurd fits
 
 -- who loads a passed place holds the page that it would give back
 pub passes_held : {E : Type 0} (X : Election E) (v : Sender E) (t : ℕ) (q : Passing)
     → situation X v ≡ ReadsPassed t q → HasPage t v.core.phase
-passes_held {E} X v t q i = by v.reuse (situation_tells X v (ReadsPassed t q) i) where
-  by : (reuse : Option Reuse)
-      → SituationTells v.core.layout.passers (ReadsPassed t q) reuse (situation_of X v.core)
-      → HasPage t v.core.phase
-  by None w = absurd w
-  by (Some r) w =
-      let h = tells X v.core (GivesBack t w.page NoRoom) w.gives in
-      record { page = w.page; stored = h.0; published = h.1; has = h.2 }
+passes_held {E} X v t q i = grind (arith, common_steps, situation_tells, tells)
 
 -- a sender that there is
 core_found : {E : Type 0} (o : Option (Core E)) (s : Standing E) → of_some standing_of o ≡ Some s
@@ -124,10 +109,7 @@ module _ {E : Type 0} (X : Election E) (P : Protocol E (Unit {0}) ℕ) (m : Mach
           left = λ q low.
               k.left q low
               ∙ ap (λ (o : Order). Some (has_gone q o)) (order_same P m T f order owners s);
-          floor = record {
-            low = k.floor;
-            flat = λ flat. f.sending.flat_home flat page at;
-          };
+          floor = grind (arith, common_steps);
         }
     | Held holder stage away many holds ↦ absurd (true≢false (sym (ap is_some at) ∙ away))
   ]
@@ -171,13 +153,7 @@ module _ {E : Type 0} (X : Election E) (P : Protocol E (Unit {0}) ℕ) (m : Mach
           known = record {
             order = order_of f.frames;
             owners = map tenure_and_owner f.frames;
-            spelled = record {
-              frames = f.frames;
-              lawful = f.sending.log.lawful;
-              words_are = refl;
-              order_is = refl;
-              owners_are = refl;
-            };
+            spelled = grind (arith, common_steps);
             words = knows.words ∙ sym many_words;
             knows = record {
               entries = knows.entries;
@@ -209,23 +185,9 @@ module _ {E : Type 0} (X : Election E) (P : Protocol E (Unit {0}) ℕ) (m : Mach
           known = record {
             order = order_of w.front;
             owners = map tenure_and_owner w.front;
-            spelled = record {
-              frames = w.front;
-              lawful = lawful;
-              words_are = refl;
-              order_is = refl;
-              owners_are = refl;
-            };
+            spelled = grind (arith, common_steps);
             words = omega arith;
-            knows = record {
-              entries = knows.entries;
-              next = knows.next;
-              left = knows.left;
-              floor = record {
-                low = knows.floor;
-                flat = λ flat. w.flat (ap (λ (x : Layout). x.passers) part.layout ∙ flat);
-              };
-            };
+            knows = grind arith;
             ended = knows.ended;
             tenures = knows.tenures;
           };
@@ -240,34 +202,11 @@ module _ {E : Type 0} (X : Election E) (P : Protocol E (Unit {0}) ℕ) (m : Mach
         let owns = (f.sending.tenures.holding holder t holds).2 in
         let w = f.takers.took t holder owns in
         let k = front_of has_page.page has_page.stored has_page.published has_page.has in
-        record {
-          tenure = t;
-          stage = f.stage ∙ stage;
-          owner = holder;
-          last = subst (λ l. slice_get l t ≡ Some holder) same owns;
-          many = ap length (sym same) ∙ many;
-          took = w;
-          sender = v.0;
-          there = v.1;
-          page = has_page.page;
-          stored = has_page.stored;
-          published = has_page.published;
-          has = ap (λ (c : Core E). c.phase) v.2 ∙ has_page.has;
-          front = k.front;
-          knows = k.known;
-          behind = subst (λ (c : Core E).
-              T.log ≡ k.front ++ cond has_page.published (frame_words (frame_of c.queue t)) [])
-              (sym v.2) k.behind;
-        }
+        grind (arith, common_steps, slice_get, length, has_page)
 
   -- a page that is out is with the owner of the open tenure
   pub out : (k : TakersTold m.reuse m.owners T.actions) → m.home ≡ None → IsWithOwner m T k.all
-  out k away = elim f.sending.tenures.stage_is [
-    | Open stage here many ↦ absurd (true≢false (sym here ∙ ap is_some away))
-    | Held holder stage gone many holds ↦
-        with_owner f.sending.tenures.ended holder holds k.all
-        (takers_one f.owners k.all T.actions f.takers k.takers) stage many
-  ]
+  out k away = grind (arith, common_steps, true≢false, is_some, with_owner, takers_one)
 
   -- who holds a page took it
   pub owns : (k : TakersTold m.reuse m.owners T.actions) (p : ℕ) (v : Sender E) (t : ℕ)
@@ -322,26 +261,4 @@ module _ {E : Type 0} (X : Election E) (P : Protocol E (Unit {0}) ℕ) (m : Mach
         let own = own_is X v (StoresWord t page stored) i in
         let ph = tells X v.core (StoresWord t page stored) own in
         let fresh = word_unpublished t page stored ph.0 ph.1 own in
-        let w = writes t page stored (ph.1 ∙ ap (phase.Holding t page stored) fresh) in
-        let knows : page.words ≡ slice_index m.words 0 = w.page_knows.words ∙ sym f.length in
-        let due : (line_now X v).op word
-        ≡ Some (Store record {
-          0 = log_start v.core.layout v.reuse + cell_of v.core.layout (page.words + stored);
-        } (slice_index (frame_words (frame_of v.core.queue t)) stored)) =
-        ap (λ z. (line X v z).op word) i in
-        let room = word_room v.core t page stored ph.0 ph.1
-        (ap (situation_at X v.core) (sym ph.1) ∙ own) in
-        record {
-          cell =
-              ap register (same_Some _ _ (sym next ∙ due))
-              ∙ ap (λ n. n + cell_of v.core.layout (page.words + stored)) its_start
-              ∙ ap (λ (x : Layout).
-              log_place m.layout m.reuse + (page.words + stored) % x.capacity) its_part.layout
-              ∙ ap (λ n. log_place m.layout m.reuse + (n + stored) % m.layout.capacity) knows;
-          room =
-              let fits = room.0 in
-              let left = room.1 in
-              let capacity_is = ap (λ (x : Layout). x.capacity) its_part.layout in
-              let floor_is = f.floored p v t page stored ph.0 at ph.1 in
-              let low = f.low in omega arith;
-        }
+        grind (arith, writes, slice_index, word_room, register, same_Some, its_start, its_part)

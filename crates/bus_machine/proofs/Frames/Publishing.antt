@@ -1,10 +1,10 @@
 -- What an event publishes stands in its cells just behind what was published before.
-use Rattle.std.proofs.Common.{◌≡◌, ℕ, ◌+◌, ◌-◌, ◌%◌, ◌<◌, ◌≤◌, Bool, true, false, Option, Some}
-use Rattle.std.proofs.Common.{List, ◌++◌, length, take, drop, slice_get, slice_index}
-use Rattle.std.proofs.Common.{arith, refl, sym, ◌∙◌, ap}
+use Rattle.std.proofs.Common.{◌≡◌, ℕ, ◌+◌, ◌-◌, ◌%◌, ◌<◌, ◌≤◌, Bool, true, false, Some, List, ◌++◌}
+use Rattle.std.proofs.Common.{length, take, drop, slice_get, slice_index, arith, refl, sym, ◌∙◌, ap}
 use Rattle.std.proofs.Math.Seq.{drop-append_seam, take-length}
 use Rattle.std.proofs.lemmas.List.{append-nil, length-append, length-drop}
 use Rattle.std.proofs.lemmas.Option.{slice_get_within}
+use Rattle.std.proofs.lemmas.Grind.{common_steps}
 use Rattle.bus_batch.specs.Batches.{frame_of}
 use Rattle.bus_batch.specs.Frames.{frame_words}
 use Rattle.bus_core.proofs.Situated.{own_is}
@@ -13,7 +13,7 @@ use Rattle.bus_core.specs.Table.{line}
 use Rattle.bus_register.specs.Protocol.{Protocol}
 use Rattle.bus_register.specs.Private.TableLaws.{get_set_same}
 use Rattle.bus_tenure.proofs.Situated.{tells}
-use Rattle.bus_tenure.specs.Core.{Election, log_at}
+use Rattle.bus_tenure.specs.Core.{Election}
 use Rattle.bus_tenure.specs.Situations.{StoresLength, situation_at, situation_of}
 use Rattle.bus_tenure.specs.declared.pages.Page.{Page}
 use Rattle.bus_tenure.specs.declared.phases.Phase.TheVariants as phase
@@ -32,20 +32,11 @@ use Rattle.bus_machine.proofs.Bases.Leading.{Sits, sits_after}
 use Rattle.bus_machine.specs.Machine.{base_of, Machine, Trails, Reached, Then, Happens, TakesTurn}
 use Rattle.bus_machine.specs.Machine.{ShowsLog, ShowsPublished, found, has_stopped, log_place}
 use Rattle.bus_machine.specs.Machine.{moved, trails_grown}
-use Rattle.bus_machine.specs.Promise.{frame_next}
 
 -- nothing was published
 shows_same : {E : Type 0} (m : Machine E) (before after : List ℕ) → ShowsLog m after
     → after ≡ before → ShowsPublished m before after
-shows_same m before after shows same =
-    let long = shows.0 in
-    let many = ap length same in
-    let none : 0 ≡ slice_index m.words 0 - length before = omega arith in (
-      long,
-      same ∙ sym (append-nil before)
-          ∙ ap (λ n. before ++ words_in_ring (slice_index m.words) (log_place m.layout m.reuse)
-          m.layout.capacity (length before) n) none,
-    )
+shows_same m before after shows same = grind (arith, common_steps, length, slice_index, append-nil)
 
 -- ---- a machine, by the frames of its log
 module _ {E : Type 0} (P : Protocol E (Unit {0}) ℕ) (m : Machine E) (T : Trails)
@@ -54,11 +45,7 @@ module _ {E : Type 0} (P : Protocol E (Unit {0}) ℕ) (m : Machine E) (T : Trail
   stands : (place : ℕ) → f.floor ≤ place → place < length T.log
       → slice_index m.words (log_place m.layout m.reuse + place % m.layout.capacity)
       ≡ slice_index T.log place
-  stands place past below =
-      let low : place < f.V 0 = let a = f.stands.0 in let b = f.length in omega arith in
-      f.finds place past low
-      ∙ sym (index-read f.V (log_at m.layout) (f.V 0) place low)
-      ∙ ap (λ ws. slice_index ws place) (f.sending.log.words_are ∙ f.log_is)
+  stands place past below = grind (arith, common_steps, index-read, slice_index)
 
   -- so the words up to the length are read from there on
   read_on : (place : ℕ) → f.floor ≤ place → place ≤ length T.log
@@ -76,13 +63,7 @@ module _ {E : Type 0} (P : Protocol E (Unit {0}) ℕ) (m : Machine E) (T : Trail
   shows_joined : (before joined : List ℕ) → T.log ≡ before ++ joined → f.floor ≤ length before
       → ShowsPublished m before T.log
   shows_joined before joined is past =
-      let many = ap length is in
-      let all = length-append before joined in (
-        f.stands.0,
-        is ∙ ap (λ ws. before ++ ws)
-            (sym (drop-append_seam before joined) ∙ ap (drop (length before)) (sym is)
-            ∙ sym (read_on (length before) past (omega arith))),
-      )
+      grind (arith, common_steps, length, length-append, drop-append_seam, drop, read_on)
 
 -- ---- a turn of sender s
 module _ {E : Type 0} (X : Election E) (P : Protocol E (Unit {0}) ℕ) (m m' : Machine E) (T : Trails)
@@ -110,10 +91,7 @@ module _ {E : Type 0} (X : Election E) (P : Protocol E (Unit {0}) ℕ) (m m' : M
       ((line X v z).fed (found m (line X v z) word) word)
 
   there_now : slice_get m'.senders s ≡ Some (sender_now (situation X v))
-  there_now =
-      ap (λ (y : Machine E). slice_get y.senders s) h.after
-      ∙ get_set_same m.senders s (sender_now (situation X v))
-      (slice_get_within m.senders s v at)
+  there_now = grind (arith, common_steps, slice_get, get_set_same, slice_get_within, at)
 
   -- it stores the length: the floor of its page is not past the length that the page knows
   module _ (t : ℕ) (page : Page) (stored : ℕ)
@@ -136,13 +114,7 @@ module _ {E : Type 0} (X : Election E) (P : Protocol E (Unit {0}) ℕ) (m m' : M
     phase_now = ap (λ z. (sender_now z).core.phase) i
 
     floor_low : f'.floor ≤ length T.log
-    floor_low =
-        let low = writing.page_knows.floor in
-        let knows = writing.page_knows.words in
-        let size = f.length in
-        let long = f.stands.0 in
-        let same = f'.floored s (sender_now (situation X v)) t page stored true there_now phase_now
-        in omega arith
+    floor_low = grind (arith, writing, f, f', there_now, phase_now)
 
   by_turn : (z : Situation E) → situation X v ≡ z
       → T'.log ≡ T.log ++ words_of_frame (line X v z).publishes → ShowsPublished m' T.log T'.log
@@ -153,9 +125,7 @@ module _ {E : Type 0} (X : Election E) (P : Protocol E (Unit {0}) ℕ) (m m' : M
   by_turn z i is = shows_same m' T.log T'.log f'.stands (is ∙ append-nil T.log)
 
   turn_stands : ShowsPublished m' T.log T'.log
-  turn_stands = by_turn (situation X v) refl
-      (joins X m m' (Turn s word) a T h
-      ∙ ap (λ (o : Option (Sender E)). T.log ++ words_of_frame (frame_next X o)) h.goes)
+  turn_stands = grind (arith, by_turn, joins)
 
 -- ---- whatever happens
 module _ {E : Type 0} (X : Election E) (P : Protocol E (Unit {0}) ℕ) (m m' : Machine E)

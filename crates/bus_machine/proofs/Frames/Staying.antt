@@ -1,15 +1,13 @@
 -- Where the log is extended and the trails have grown, the promise stays.
 use Rattle.std.proofs.Common.{◌≡◌, ℕ, suc, ◌+◌, Bool, true, false, cond, ◌==◌, Option, Some, None}
 use Rattle.std.proofs.Common.{List, [], ◌∷◌, ◌++◌, flat_map, map, slice_get, refl, sym, ◌∙◌, ap}
-use Rattle.std.proofs.Common.{subst, append_assoc}
-use Rattle.std.specs.List.{list_any}
+use Rattle.std.proofs.Common.{subst, append_assoc, arith}
 use Rattle.std.specs.Prelude.{◌||◌}
-use Rattle.std.proofs.lemmas.Grind.{flat_map-append}
+use Rattle.std.proofs.lemmas.Grind.{flat_map-append, common_steps}
 use Rattle.std.proofs.lemmas.List.Folds.{list_any-append}
 use Rattle.std.proofs.lemmas.Option.{same_Some}
 use Rattle.bus_batch.proofs.FrameLaws.{same_frame}
-use Rattle.bus_batch.specs.Frames.{Frame, Order, AreFrames, AreFramesFrom, frame_words, log_words}
-use Rattle.bus_batch.specs.Frames.{order_of, tenure_and_owner, Spells}
+use Rattle.bus_batch.specs.Frames.{Frame, Order, AreFramesFrom, frame_words, log_words, Spells}
 use Rattle.bus_core.specs.Senders.{Sender, Situation, Does, Announces, Validates, Unpins}
 use Rattle.bus_core.specs.Senders.{Withdraws, Scans, Clears, ReadsPassed, situation}
 use Rattle.bus_core.specs.Table.{Line, line_now}
@@ -22,7 +20,7 @@ use Rattle.bus_tenure.specs.declared.turns.Turn.{Turn as Answered}
 use Rattle.bus_world.proofs.Framing.{order_grows, owners_grow}
 use Rattle.bus_world.proofs.Growing.{nothing_more}
 use Rattle.bus_world.proofs.Places.{got_before}
-use Rattle.bus_world.specs.Headline.{Action, Stepped, entry_heard, end_heard, order_given, IsPrefix}
+use Rattle.bus_world.specs.Headline.{Action, Stepped, order_given, IsPrefix}
 use Rattle.bus_world.specs.Trails.{Takers, actions_with}
 use Rattle.bus_world.specs.World.{Event, Put, Ask, Turn, Recv, Stop, Gone}
 use Rattle.bus_world.specs.declared.events.Answer.{Answer}
@@ -55,18 +53,7 @@ pub spells_more : (senders : ℕ) (words words' : List ℕ) (order order' : Orde
     → Spells senders words' order' owners' → IsPrefix words words'
     → Further order owners order' owners'
 spells_more senders words words' order order' owners owners' s t p =
-    let m = frames_front senders 0 0 s.frames t.frames p.rest s.lawful t.lawful
-    (ap (λ w. w ++ p.rest) s.words_are ∙ p.together ∙ sym t.words_are) in
-    let grown = order_grows senders s.frames m.0 (subst (AreFrames senders) (sym m.1) t.lawful) in
-    record {
-      order_grows = subst (λ o. IsPrefixOfOrder o order') s.order_is
-          (subst (λ o. IsPrefixOfOrder (order_of s.frames) o) t.order_is
-          (subst (λ fs. IsPrefixOfOrder (order_of s.frames) (order_of fs)) m.1 grown));
-      owners_grow = subst (λ o. IsPrefix o owners') s.owners_are
-          (subst (λ o. IsPrefix (map tenure_and_owner s.frames) o) t.owners_are
-          (subst (λ fs. IsPrefix (map tenure_and_owner s.frames) (map tenure_and_owner fs)) m.1
-          (owners_grow s.frames m.0)));
-    }
+    grind (arith, frames_front, order_grows, map, owners_grow)
 
 -- ---- who took the pages
 list_front : (a b : List ℕ) → ((t s : ℕ) → slice_get a t ≡ Some s → slice_get b t ≡ Some s)
@@ -76,10 +63,7 @@ list_front (x ∷ a) [] h = absurd (let q : None ≡ Some x = h 0 x refl in cc)
 list_front (x ∷ a) (y ∷ b) h =
     let i = same_Some y x (h 0 x refl) in
     let later = list_front a b (λ t s e. h (suc t) s e) in
-    record {
-      rest = later.rest;
-      together = ap (λ k. x ∷ k) later.together ∙ ap (λ k. k ∷ b) (sym i);
-    }
+    grind (arith, common_steps)
 
 takers_grow : (a b : List ℕ) (D D' : ℕ → List Action) → Takers a D → Takers b D'
     → ((s : ℕ) → IsPrefix (D s) (D' s)) → IsPrefix a b
@@ -103,18 +87,8 @@ true_or false b e = absurd (let z : false ≡ true = e in cc)
 given_grows : (trail trail' : List RecvTurn) → IsPrefix trail trail' → (q q' : Order)
     → IsPrefixOfOrder (order_given trail) q → IsPrefixOfOrder (order_given trail') q'
     → IsPrefixOfOrder q q' → IsPrefixOfOrder (order_given trail) (order_given trail')
-given_grows trail trail' more q q' front front' grown = record {
-  later = flat_map entry_heard more.rest;
-  entries =
-      ap (flat_map entry_heard) (sym more.together) ∙ flat_map-append entry_heard trail more.rest;
-  ended = λ e.
-      let q_is = front.ended e in
-      let q_ended : q.ended ≡ true = ap (λ (z : Order). z.ended) (sym q_is) ∙ e in
-      let also : (order_given trail').ended ≡ true =
-      ap (list_any end_heard) (sym more.together) ∙ list_any-append end_heard trail more.rest
-      ∙ true_or (list_any end_heard trail) (list_any end_heard more.rest) e in
-      q_is ∙ grown.ended q_ended ∙ sym (front'.ended also);
-}
+given_grows trail trail' more q q' front front' grown =
+    grind (arith, common_steps, flat_map, flat_map-append, list_any-append, true_or)
 
 -- ---- trails that have grown
 pub record Longer (T T' : Trails) : Type 0 where
@@ -122,10 +96,7 @@ pub record Longer (T T' : Trails) : Type 0 where
   pub heard : (q : ℕ) → IsPrefix (T.heard q) (T'.heard q)
 
 pub stays_long : (T : Trails) → Longer T T
-stays_long T = record {
-  actions = λ q. nothing_more (T.actions q);
-  heard = λ q. nothing_more (T.heard q);
-}
+stays_long T = grind (arith, common_steps, nothing_more)
 
 longer_by : (s : ℕ) (ds : List Action) (D : ℕ → List Action) (q : ℕ)
     → IsPrefix (D q) (actions_with s ds D q)
@@ -134,38 +105,15 @@ longer_by s ds D q = record { rest = cond (q == s) ds []; together = refl }
 module _ {E : Type 0} (X : Election E) (m : Machine E) (T : Trails) where
   turn_longer : (z : Situation E) (l : Line E) (s got word : ℕ) (t : Answered)
       → Longer T (turn_trails z l s got word t T)
-  turn_longer (Does z) l s got word t = record {
-    actions = longer_by s _ T.actions;
-    heard = λ q. nothing_more (T.heard q);
-  }
-  turn_longer (Announces u) l s got word t = record {
-    actions = longer_by s [] T.actions;
-    heard = λ q. nothing_more (T.heard q);
-  }
-  turn_longer (Validates u) l s got word t = record {
-    actions = longer_by s [] T.actions;
-    heard = λ q. nothing_more (T.heard q);
-  }
-  turn_longer (Unpins u) l s got word t = record {
-    actions = longer_by s [] T.actions;
-    heard = λ q. nothing_more (T.heard q);
-  }
-  turn_longer (Withdraws u) l s got word t = record {
-    actions = longer_by s [] T.actions;
-    heard = λ q. nothing_more (T.heard q);
-  }
-  turn_longer (Scans r) l s got word t = record {
-    actions = longer_by s [] T.actions;
-    heard = λ q. nothing_more (T.heard q);
-  }
-  turn_longer (Clears r) l s got word t = record {
-    actions = longer_by s [] T.actions;
-    heard = λ q. nothing_more (T.heard q);
-  }
-  turn_longer (ReadsPassed u p) l s got word t = record {
-    actions = longer_by s _ T.actions;
-    heard = λ q. nothing_more (T.heard q);
-  }
+  turn_longer (Does z) l s got word t = grind (arith, common_steps, longer_by, nothing_more)
+  turn_longer (Announces u) l s got word t = grind (arith, common_steps, longer_by, nothing_more)
+  turn_longer (Validates u) l s got word t = grind (arith, common_steps, longer_by, nothing_more)
+  turn_longer (Unpins u) l s got word t = grind (arith, common_steps, longer_by, nothing_more)
+  turn_longer (Withdraws u) l s got word t = grind (arith, common_steps, longer_by, nothing_more)
+  turn_longer (Scans r) l s got word t = grind (arith, common_steps, longer_by, nothing_more)
+  turn_longer (Clears r) l s got word t = grind (arith, common_steps, longer_by, nothing_more)
+  turn_longer (ReadsPassed u p) l s got word t =
+      grind (arith, common_steps, longer_by, nothing_more)
 
   sender_longer : (s word : ℕ) (o : Option (Sender E)) (a : Answer)
       → Longer T (turn_grown X m s o word a T)
@@ -189,19 +137,10 @@ module _ {E : Type 0} (X : Election E) (m : Machine E) (T : Trails) where
   heard_longer r answer.Gone q = nothing_more (T.heard q)
 
   pub grown_longer : (e : Event) (a : Answer) → Longer T (trails_grown X m e a T)
-  grown_longer (Put s bytes) a = record {
-    actions = longer_by s _ T.actions;
-    heard = λ q. nothing_more (T.heard q);
-  }
-  grown_longer (Ask s asked) a = record {
-    actions = longer_by s _ T.actions;
-    heard = λ q. nothing_more (T.heard q);
-  }
+  grown_longer (Put s bytes) a = grind (arith, common_steps, longer_by, nothing_more)
+  grown_longer (Ask s asked) a = grind (arith, common_steps, longer_by, nothing_more)
   grown_longer (Turn s word) a = sender_longer s word (going m s) a
-  grown_longer (Recv r) a = record {
-    actions = λ q. nothing_more (T.actions q);
-    heard = heard_longer r a;
-  }
+  grown_longer (Recv r) a = grind (arith, common_steps, nothing_more, heard_longer)
   grown_longer (Stop s) a = stays_long T
   grown_longer (Gone r) a = stays_long T
 

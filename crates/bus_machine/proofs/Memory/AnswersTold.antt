@@ -4,9 +4,9 @@ use Rattle.std.proofs.Common.{false, cond, Option, Some, None, IsSome, List, [],
 use Rattle.std.proofs.Common.{slice_get, arith, refl, sym, ◌∙◌, ap, subst}
 use Rattle.std.proofs.lemmas.Bool.{leb-true, true≢false}
 use Rattle.std.proofs.lemmas.Bool.Decides.{eqb_tells}
-use Rattle.std.proofs.lemmas.Grind.{flat_map-append}
+use Rattle.std.proofs.lemmas.Grind.{flat_map-append, common_steps}
 use Rattle.std.proofs.lemmas.List.{length-append}
-use Rattle.bus_batch.specs.Batches.{body_of, frame_of, next_of}
+use Rattle.bus_batch.specs.Batches.{frame_of, next_of}
 use Rattle.bus_batch.specs.Frames.{Frame, AreFrames, log_words}
 use Rattle.bus_batch.specs.declared.batches.Phase.{Phase as BatchPhase}
 use Rattle.bus_batch.specs.declared.batches.Phase.TheVariants as batch
@@ -50,11 +50,10 @@ use Rattle.bus_world.proofs.FrameOfBatch.{counted_frame, length-items}
 use Rattle.bus_world.proofs.LogLaws.{length-logged}
 use Rattle.bus_world.proofs.Stopping.{shown_there}
 use Rattle.bus_world.specs.Private.Sending.{Part, Fits}
-use Rattle.bus_world.specs.Headline.{Action, HasPut, Stepped, Elected, Took, IsPrefix, put_of, puts}
+use Rattle.bus_world.specs.Headline.{Action, HasPut, Stepped, Elected, Took, IsPrefix}
 use Rattle.bus_world.specs.Telling.{HasDelivered, HasLeft}
 use Rattle.bus_world.specs.World.{Event, Put, Ask, Turn, Recv, Stop, Gone}
 use Rattle.bus_world.specs.declared.events.Answer.{Answer}
-use Rattle.bus_world.specs.declared.events.Answer.TheVariants as answer
 use Rattle.bus_machine.proofs.Bases.AtNone.{flat_at_none}
 use Rattle.bus_machine.proofs.Memory.EachSender.{actions_of_it, added}
 use Rattle.bus_machine.proofs.Frames.Ending.{elected_more, ended_of, published_ends, found_ends}
@@ -73,7 +72,7 @@ use Rattle.bus_machine.specs.Machine.{TakesTurn, found, has_stopped, stage_of}
 use Rattle.bus_machine.specs.Machine.{trails_grown, turn_answer}
 use Rattle.bus_machine.specs.Promise.{pin_of}
 use Rattle.bus_machine.specs.Remembering.{NoneIsLeft, Remembers, rows_in}
-use Rattle.bus_machine.specs.Telling.{TurnTells, ClosedTells, PutTells, SenderTells, EventTells}
+use Rattle.bus_machine.specs.Telling.{TurnTells, ClosedTells, EventTells}
 use Rattle.bus_machine.specs.Finding.{places_found}
 use Rattle.bus_machine.specs.Telling.{IsLeast}
 
@@ -136,9 +135,7 @@ module _ {E : Type 0} (X : Election E) (P : Protocol E (Unit {0}) ℕ) (m m' : M
   looked : (b d : Bool) → nat_le c.layout.rows (stage_of m / 2) ≡ d
       → Told (cond b turn.Waiting (cond d turn.Spent turn.Going))
   looked true d i = tt
-  looked false true i =
-      let past = leb-true _ _ i in
-      let rows = ap (λ (x : Layout). x.rows) part.layout in inl (omega arith)
+  looked false true i = grind (arith, common_steps, leb-true, part)
   looked false false i = tt
 
   -- after a step of an election
@@ -167,9 +164,7 @@ module _ {E : Type 0} (X : Election E) (P : Protocol E (Unit {0}) ℕ) (m m' : M
         found = n;
         chose = None;
         answer = told;
-        at = ap (λ l. slice_get l (length (T.actions s)))
-            (done X P m m' T s word a sits r h (all_recall X P m T sits r) (Does (TakesPage t)) i)
-            ∙ push_here (T.actions s) d (length (T.actions s)) refl;
+        at = grind (arith, common_steps, slice_get, length, done, all_recall, push_here);
       } in
       let after = framed X P m' U (sits_after X P m m' (Turn s word) a h sits)
       (Then m m' T (Turn s word) a r h) in
@@ -197,15 +192,7 @@ module _ {E : Type 0} (X : Election E) (P : Protocol E (Unit {0}) ℕ) (m m' : M
 
     -- or its leave mark
     leaves : c.queue.phase ≡ batch.Marking mark.Leave → HasLeft m.layout.senders T.log s t
-    leaves leaving = record {
-      earlier = front;
-      frame = frame_of c.queue t;
-      lawful = subst (AreFrames m.layout.senders) last f.sending.log.lawful;
-      words_are = its_words;
-      tenure = refl;
-      owner = part.sender;
-      says = ap (λ q. body_of q c.queue.first c.queue.messages) leaving;
-    }
+    leaves leaving = grind (arith, common_steps, f, its_words, part)
 
   -- of whom the page goes back with its frame in the log
   sent : (t : ℕ) (ph : Phase E) → HasPublished t ph → Fits (base_of m) f.V f.frames c ph
@@ -263,11 +250,7 @@ module _ {E : Type 0} (X : Election E) (P : Protocol E (Unit {0}) ℕ) (m m' : M
     published = false;
     holds = is;
     flat = λ flat. fits.1.flat (ap (λ (x : Layout). x.passers) part.layout ∙ flat);
-    lacks =
-        let words_are = fits.1.page_knows.words in
-        let capacity_is = ap (λ (x : Layout). x.capacity) part.layout in
-        let size = sym (ap length f.log_is) ∙ length-logged f.sending.log in
-        omega arith;
+    lacks = grind (arith, common_steps, part, length, f, length-logged);
     loaded = λ some.
         let q = ring_reuse t page same some v.reuse refl in
         all_are_found m.layout.passers page q.0.passed (places_found (U.actions s))
@@ -281,15 +264,10 @@ module _ {E : Type 0} (X : Election E) (P : Protocol E (Unit {0}) ℕ) (m m' : M
         (let e = words_are in let d = ap length f.log_is in omega arith));
   } where
     same : situation X v ≡ Does (GivesBack t page NoRoom)
-    same =
-        let own = phase_tells X v (GivesBack t given NoRoom) i in
-        i ∙ ap (λ (g : Page). Does (GivesBack t g NoRoom))
-        (held_page_is t given own.0 own.1 t page stored false (sym own.2 ∙ is))
+    same = grind (arith, common_steps, phase_tells, held_page_is)
 
     words_are : page.words ≡ length T.log
-    words_are =
-        let own = fits.1.page_knows.words in
-        let size = sym (ap length f.log_is) ∙ length-logged f.sending.log in omega arith
+    words_are = grind (arith, common_steps, length, f, length-logged)
   full t given i ph is HandsOnFull fits = absurd fits
 
   -- of whom the page goes back
@@ -358,10 +336,7 @@ module _ {E : Type 0} (X : Election E) (P : Protocol E (Unit {0}) ℕ) (m m' : M
 
   -- so its answer tells what is so
   turn_told : EventTells m T.log (Turn s word) a U
-  turn_told =
-      subst (λ o. SenderTells m T.log s o (U.actions s) a) (sym h.goes)
-      (subst (SenderTells m T.log s (Some v) (U.actions s)) (sym h.answered)
-      (by_turn (situation X v) refl))
+  turn_told = grind (arith, common_steps, by_turn)
 
 -- ---- a put
 put_told : {E : Type 0} (X : Election E) (P : Protocol E (Unit {0}) ℕ) (m m' : Machine E)
@@ -374,13 +349,7 @@ put_told X P m m' T s bytes a sits r h =
     let ds = HasPut n bytes ∷ [] in
     let at = shown_there (has_stopped m s) (slice_get m.senders s) v h.goes in
     let before = (remembered X P m T sits r s v at).numbers in
-    let now = actions_of_it s ds T.actions s refl in
-    let many =
-    ap length (flat_map-append put_of (T.actions s) ds)
-    ∙ length-append (puts (T.actions s)) (bytes ∷ []) in
-    subst (λ d. PutTells (base_of m s) ((trails_grown X m (Put s bytes) d T).actions s) d)
-    (sym h.answered)
-    (subst (λ l. PutTells (base_of m s) l (answer.Number n)) (sym now) (omega arith))
+    grind (arith, common_steps, actions_of_it, length, flat_map-append, length-append)
 
 -- ---- whatever happens
 pub told : {E : Type 0} (X : Election E) (P : Protocol E (Unit {0}) ℕ) (m m' : Machine E)

@@ -1,11 +1,12 @@
 -- What holds of each sender and of what it did at its start, and after each of its own events,
 -- holds of it in each machine that is reached.
-use Rattle.std.proofs.Common.{◌≡◌, ◌≢◌, inl, inr, ℕ, ◌<◌, Bool, true, false, cond, ◌==◌}
-use Rattle.std.proofs.Common.{Option, Some, None, List, [], ◌∷◌, ◌++◌, length, slice_get, slice_set}
-use Rattle.std.proofs.Common.{refl, sym, ◌∙◌, ap, subst}
+use Rattle.std.proofs.Common.{◌≡◌, ◌≢◌, inl, inr, ℕ, ◌<◌, Bool, true, false, cond, ◌==◌, Option}
+use Rattle.std.proofs.Common.{Some, None, List, [], ◌∷◌, ◌++◌, length, slice_get, slice_set, refl}
+use Rattle.std.proofs.Common.{sym, ◌∙◌, ap, subst, arith}
 use Rattle.std.proofs.lemmas.Bool.Decides.{eqb_tells}
 use Rattle.std.proofs.lemmas.List.{append-nil}
 use Rattle.std.proofs.lemmas.Option.{slice_get_within}
+use Rattle.std.proofs.lemmas.Grind.{common_steps}
 use Rattle.bus_batch.specs.declared.messages.Mark.{Mark}
 use Rattle.bus_core.specs.Senders.{Sender, Situation, Does, Scans, Clears, ReadsPassed}
 use Rattle.bus_core.specs.Senders.{situation}
@@ -65,11 +66,7 @@ nothing_joins false xs = sym (append-nil xs)
 entered_with : (T : Entries) (s q : ℕ) (o : Option Op) (got : ℕ)
     → entered T s o got q ≡ T q ++ cond (q == s) (entries_of o got) []
 entered_with T s q None got = nothing_joins (q == s) (T q)
-entered_with T s q (Some o) got = by (q == s) where
-  by : (b : Bool) → cond b (T q ++ record { op = o; got = got } ∷ []) (T q)
-      ≡ T q ++ cond b (record { op = o; got = got } ∷ []) []
-  by true = refl
-  by false = sym (append-nil (T q))
+entered_with T s q (Some o) got = grind (arith, common_steps, append-nil)
 
 -- ---- what a turn adds
 -- to the actions
@@ -117,11 +114,8 @@ module _ {E : Type 0}
       → ((q : ℕ) → K m q (slice_get senders q) (D q) (S q)) → (q : ℕ)
       → K m q (slice_get (slice_set senders s v') q) (D q ++ cond (q == s) ds [])
       (S q ++ cond (q == s) es [])
-  with_one m senders D S s v' ds es low own k q = elim (eqb_tells q s) [
-    | inl same ↦ rw (same.0, same.1) (rw (get_set_same senders s v' low) own)
-    | inr other ↦ rw (other.0, get_set_other senders s v' q other.1)
-        (rw (append-nil (D q), append-nil (S q)) (k q))
-  ]
+  with_one m senders D S s v' ds es low own k q =
+      grind (arith, common_steps, eqb_tells, get_set_same, get_set_other, append-nil)
 
   one_other : (m m' : Machine E) (T T' : Trails) (s : ℕ) (v v' : Sender E) (ds : List Action)
       (es : List Entry) → slice_get m.senders s ≡ Some v → m'.senders ≡ slice_set m.senders s v'
@@ -130,13 +124,7 @@ module _ {E : Type 0}
       → K m' s (Some v') (T.actions s ++ ds) (T.pins s ++ es) → OfEach m' m.senders T
       → OfEach m' m'.senders T'
   one_other m m' T T' s v v' ds es here senders actions pins own k q =
-      subst (λ l. K m' q (slice_get l q) (T'.actions q) (T'.pins q)) (sym senders)
-      (subst
-      (λ (D : ℕ → List Action). K m' q (slice_get (slice_set m.senders s v') q) (D q) (T'.pins q))
-      (sym actions) (subst (λ S. K m' q (slice_get (slice_set m.senders s v') q)
-      (actions_with s ds T.actions q) S) (sym (pins q))
-      (with_one m' m.senders T.actions T.pins s v' ds es (slice_get_within m.senders s v here) own k
-      q)))
+      grind (arith, common_steps, slice_get, slice_set, with_one, slice_get_within)
 
 module _ {E : Type 0} (X : Election E) (P : Protocol E (Unit {0}) ℕ)
     (K : Machine E → ℕ → Option (Sender E) → List Action → List Entry → Type 0)

@@ -1,19 +1,17 @@
 -- What the answer of a step tells of the sender out of whose hands the page has gone, it tells of
 -- the sender before that.
 use Rattle.std.proofs.Common.{◌≡◌, ℕ, ◌+◌, ◌*◌, Option, Some, None, List, inl, inr, slice_index}
-use Rattle.std.proofs.Common.{refl, sym, ◌∙◌, ap, subst}
+use Rattle.std.proofs.Common.{refl, sym, ◌∙◌, ap, subst, arith}
 use Rattle.std.specs.Prelude.{IsSomeAnd}
+use Rattle.std.proofs.lemmas.Grind.{common_steps}
 use Rattle.bus_core.specs.Keeping.{core_without}
-use Rattle.bus_core.specs.Senders.{Sender, Situation, Does, Announces, Validates, Unpins}
-use Rattle.bus_core.specs.Senders.{Withdraws, Scans, Clears, ReadsPassed, situation}
-use Rattle.bus_core.specs.Senders.{situation_by, pinning}
-use Rattle.bus_core.specs.Reusing.Passing.{passing_left}
+use Rattle.bus_core.specs.Senders.{Sender, Situation, Does, Announces, Validates, Unpins, Withdraws}
+use Rattle.bus_core.specs.Senders.{Scans, Clears, ReadsPassed, situation, situation_by}
 use Rattle.bus_core.specs.Table.{line, line_now}
 use Rattle.bus_core.specs.Telling.{FeedTells, LosesBy, GivesReady, IsBehind}
 use Rattle.bus_core.specs.declared.reuses.Reuse.{Reuse}
 use Rattle.bus_core.proofs.Reusing.Tells.{Shows, gives_shows}
-use Rattle.bus_core.specs.Reusing.Participants.{sizes_with}
-use Rattle.bus_core.specs.Reusing.Keeping.{held_of, IsRowReady}
+use Rattle.bus_core.specs.Reusing.Keeping.{held_of}
 use Rattle.bus_core.specs.Reusing.Telling.{Returns, HasPublished, LacksRoom, FindsEnd}
 use Rattle.bus_core.specs.Reusing.Telling.HasPublished.{Published, HandsOnSent}
 use Rattle.bus_core.specs.Reusing.Telling.LacksRoom.{FindsNoRoom, HandsOnFull}
@@ -27,8 +25,7 @@ use Rattle.bus_tenure.proofs.Situated.{tells}
 use Rattle.bus_tenure.specs.Core.{Core, Election, stage_at}
 use Rattle.bus_tenure.specs.Situations.{Situation as Own, IsClosed, IsIdle, IsSpent, LooksAtStage}
 use Rattle.bus_tenure.specs.Situations.{Elects, TakesPage, AwaitsPage, StoresWord, StoresLength}
-use Rattle.bus_tenure.specs.Situations.{GivesBack, HasHanded, situation_of, PageMove, Stays, Comes}
-use Rattle.bus_tenure.specs.Situations.{Returns as MovesHome}
+use Rattle.bus_tenure.specs.Situations.{GivesBack, HasHanded, situation_of, PageMove}
 use Rattle.bus_tenure.specs.Seen.{AwaitsItsPage}
 use Rattle.bus_tenure.specs.declared.pages.Page.{Page}
 use Rattle.bus_tenure.specs.declared.phases.Phase.{Phase}
@@ -103,9 +100,7 @@ module _ {E : Type 0} (X : Election E) (v : Sender E) (word n t : ℕ) (page : P
   handed_ready u w = record {
     does = now;
     returns = Says reason;
-    ready = subst (λ k. Rattle.std.specs.Prelude.IfSome v.reuse
-        (λ r. IsRowReady (sizes_with v.core.layout r.rows) k r.reclaimer))
-        (back_given u t page reason _ w.returns own) w.ready;
+    ready = grind (arith, common_steps, back_given, own);
   }
 
   shows : (u : ℕ) (r : Reason) → (t ≡ u) × (reason ≡ r) → Shows v.core u v.core.phase r
@@ -133,33 +128,15 @@ module _ {E : Type 0} (X : Election E) (v : Sender E) (word n t : ℕ) (page : P
   looks_twice : (u : ℕ) (r : Option Reuse) (z : Own E) → IsSomeAnd r (λ q. q.pin ≡ Validating u)
       → situation_by v.core.layout.passers r z ≡ Does (GivesBack t page reason) → ⊥
   looks_twice u None z w e = w
-  looks_twice u (Some r) z w e =
-      let bad : Validates u ≡ Does (GivesBack t page reason) =
-      sym (ap (λ p. pinning p (passing_left v.core.layout.passers r.passed) r.reclaimer z) w)
-      ∙ e in
-      cc
+  looks_twice u (Some r) z w e = cc
 
   gives_too : (a : Answered) → FeedTells X g n word a → FeedTells X v n word a
   gives_too turn.Idle w = w
   gives_too turn.Waiting (inl w) =
       absurd (let bad : phase.Giving t reason ≡ phase.Resting = w.looks.looks.rests in cc)
   gives_too turn.Waiting (inr w) = inr w
-  gives_too turn.Going w = record {
-    loses = λ u o i. w.loses u o (loses_now u o v.reuse i);
-    holds = λ u i. held ∙ w.holds u i;
-    invalidated = w.invalidated;
-    takes = λ u i. let bad = sym (tells X v.core (GivesBack t page reason) own).2 ∙ i.elects in cc;
-    gives = λ u i. w.gives t (handed_ready u i);
-    waits = λ i.
-        let bad = sym (tells X v.core (GivesBack t page reason) own).2 ∙ i.looks.looks.rests in cc;
-    spent = λ i.
-        let bad = sym (tells X v.core (GivesBack t page reason) own).2 ∙ i.looks.looks.rests in cc;
-    begins = λ i.
-        let bad = sym (tells X v.core (GivesBack t page reason) own).2 ∙ i.looks.rests in absurd cc;
-    enters = λ u i found. absurd (looks_twice u v.reuse (situation_of X v.core) i here);
-    enters_only = λ u o i runs. absurd (looks_twice u v.reuse (situation_of X v.core) i here);
-    behind = λ u p i. never_behind u p v.reuse i;
-  }
+  gives_too turn.Going w =
+      grind (arith, loses_now, held, tells, own, handed_ready, looks_twice, never_behind)
   gives_too (turn.Lost u o) w = loses_then u o v.reuse w
   gives_too (turn.Own u) w =
       absurd (let bad : phase.Giving t reason ≡ phase.Electing u w.election = w.elects in cc)
@@ -202,10 +179,7 @@ module _ {E : Type 0} (X : Election E) (v : Sender E) (word : ℕ) (cells : List
       → StepTells X cells (given (line X v z).move) ((line_now X (given (line X v z).move)).op word)
       word a → StepTells X cells v ((line_now X v).op word) word a
   tells_before (Does (GivesBack t page reason)) i w =
-      subst (λ o. StepTells X cells v o word a) (sym (stores X v word 0 t page reason i))
-      (gives_too X v word (slice_index cells stage_at) t page reason i a
-      (subst (λ o. StepTells X cells (g X v word 0 t page reason i) o word a)
-      (stores_now X v word 0 t page reason i) w))
+      grind (arith, common_steps, stores, gives_too, slice_index, stores_now)
   tells_before (Does IsClosed) i w = w
   tells_before (Does IsIdle) i w = w
   tells_before (Does IsSpent) i w = w
@@ -233,11 +207,4 @@ module _ {E : Type 0} (X : Election E) (v : Sender E) (word : ℕ) (cells : List
   -- out of whose hands the page has gone, or not, awaits none
   pub still_laid : (AwaitsItsPage v.core.phase → ⊥) → (handed : Sender E)
       → handed ≡ given (line_now X v).move → AwaitsItsPage handed.core.phase → ⊥
-  still_laid laid handed is waits =
-      by (line_now X v).move (subst (λ (h : Sender E). AwaitsItsPage h.core.phase) is waits)
-    where
-      by : (m : PageMove) → AwaitsItsPage (core_without m v.core).phase → ⊥
-      by Stays w = laid w
-      by (Comes t) w = laid w
-      by (MovesHome t reason page) w =
-          let bad : phase.Giving t reason ≡ phase.Taken w.tenure = w.is in cc
+  still_laid laid handed is waits = grind (arith, common_steps)

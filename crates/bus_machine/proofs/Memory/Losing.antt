@@ -1,20 +1,21 @@
 -- Who remembers an owner has seen an election end with it, and withdraws next.
 use Rattle.std.specs.Prelude.{◌⊎◌}
 use Rattle.std.proofs.Common.{◌≡◌, inl, inr, ℕ, ◌/◌, ◌==◌, Bool, true, false, cond, Option, Some}
-use Rattle.std.proofs.Common.{None, [], slice_get, slice_set, refl, sym, ◌∙◌, ap, subst}
+use Rattle.std.proofs.Common.{None, [], slice_get, slice_set, refl, sym, ◌∙◌, ap, subst, arith}
 use Rattle.std.proofs.lemmas.Bool.{cases_eq, true≢false}
 use Rattle.std.proofs.lemmas.Bool.Decides.{eqb_tells}
 use Rattle.std.proofs.lemmas.Option.{same_Some, slice_get_within}
+use Rattle.std.proofs.lemmas.Grind.{common_steps}
 use Rattle.bus_core.specs.Keeping.{new_reuse}
 use Rattle.bus_core.specs.Senders.{Sender, Situation, Does, Announces, Validates, Unpins}
 use Rattle.bus_core.specs.Senders.{Withdraws, Scans, Clears, ReadsPassed, pinning}
 use Rattle.bus_core.specs.Senders.{situation_by, situation}
-use Rattle.bus_core.specs.Reusing.Passing.{passing_left, passing_fed}
+use Rattle.bus_core.specs.Reusing.Passing.{passing_left}
 use Rattle.bus_core.specs.declared.reuses.Passing.{Passing}
 use Rattle.bus_core.specs.Table.{line, line_now, lost_of, seen, reuse_elected, reuse_taken}
 use Rattle.bus_core.specs.Table.{reuse_given, reuse_pinning, reuse_reclaiming, reuse_passed}
 use Rattle.bus_core.specs.declared.reuses.Reuse.{Reuse}
-use Rattle.bus_presence.specs.Reclaimers.{Reclaiming, reclaim_fed}
+use Rattle.bus_presence.specs.Reclaimers.{Reclaiming}
 use Rattle.bus_presence.specs.declared.pins.Pin.{Pin}
 use Rattle.bus_presence.specs.declared.pins.Pin.TheVariants.{Away, Validating, Pinned, Unpinning}
 use Rattle.bus_presence.specs.declared.pins.Pin.TheVariants.{Invalidated}
@@ -113,17 +114,8 @@ module _ {E : Type 0} (X : Election E) (m m' : Machine E) (T : Trails) (e : Even
       → HasSeenLoss (pin_of v'.reuse) s o (T'.actions s)) → LossesAreSeen m' T'.actions
   one_other s v v' at senders now q w o here lost = elim (cases_eq q s) [
     | inl same ↦
-        let set = slice_set m.senders s v' in
-        let is : v' ≡ w =
-        same_Some _ _ (sym (get_set_same m.senders s v' (slice_get_within m.senders s v at))
-        ∙ ap (slice_get set) (sym same) ∙ ap (λ y. slice_get y q) (sym senders) ∙ here) in
-        subst (λ n. HasSeenLoss (pin_of w.reuse) n o (T'.actions n)) (sym same)
-        (subst (λ (y : Sender E). HasSeenLoss (pin_of y.reuse) s o (T'.actions s)) is
-        (now o (ap (λ (y : Sender E). lost_of y.reuse) is ∙ lost)))
-    | inr other ↦
-        still (pin_of w.reuse) q o (l q w o
-        (sym (get_set_other m.senders s v' q other) ∙ ap (λ y. slice_get y q) (sym senders) ∙ here)
-        lost)
+        grind (arith, common_steps, slice_set, same_Some, get_set_same, slice_get_within, slice_get)
+    | inr other ↦ grind (arith, common_steps, still, get_set_other, slice_get)
   ]
 
   -- all are as before
@@ -217,15 +209,9 @@ module _ {E : Type 0} (X : Election E) (P : Protocol E (Unit {0}) ℕ) (m m' : M
       (pinning_lost v.reuse (cond (got (Validates t) / 2 == t) (Pinned t) (Invalidated t)) o lost)
   by_turn (Unpins t) i = λ o lost. absurd (pinning_lost v.reuse Away o lost)
   by_turn (Withdraws t) i = λ o lost. absurd (pinning_lost v.reuse Away o lost)
-  by_turn (Scans q) i = kept (Scans q) i (λ u e. cc)
-      (reuse_reclaiming v.reuse (reclaim_fed q (got (Scans q))))
-      (reclaiming_lost v.reuse (reclaim_fed q (got (Scans q))))
-  by_turn (Clears q) i = kept (Clears q) i (λ u e. cc)
-      (reuse_reclaiming v.reuse (reclaim_fed q (got (Clears q))))
-      (reclaiming_lost v.reuse (reclaim_fed q (got (Clears q))))
-  by_turn (ReadsPassed t p) i = kept (ReadsPassed t p) i (λ u e. cc)
-      (reuse_passed v.reuse (passing_fed p (got (ReadsPassed t p))))
-      (passed_lost v.reuse (passing_fed p (got (ReadsPassed t p))))
+  by_turn (Scans q) i = grind (arith, common_steps, kept, reclaiming_lost)
+  by_turn (Clears q) i = grind (arith, common_steps, kept, reclaiming_lost)
+  by_turn (ReadsPassed t p) i = grind (arith, common_steps, kept, passed_lost)
 
   -- after it
   turn_losses : LossesAreSeen m' U.actions
@@ -262,9 +248,7 @@ module _ {E : Type 0} (X : Election E) (P : Protocol E (Unit {0}) ℕ) where
 
   -- nobody has lost a tenure at the start
   new_losses : (m : Machine E) → IsNew m → LossesAreSeen m (λ q. [])
-  new_losses m new s w o at lost =
-      absurd (new_lost m.reuse o
-      (ap (λ (y : Sender E). lost_of y.reuse) (sym (new.senders s w at).1) ∙ lost))
+  new_losses m new s w o at lost = grind (arith, common_steps, new_lost)
 
   -- whatever leads to a machine
   pub losses : (m : Machine E) (T : Trails) → Sits X P m → Reached X m T → LossesAreSeen m T.actions

@@ -8,6 +8,7 @@ use Rattle.std.proofs.lemmas.Bool.{cases_eq, cases_lt, true≢false}
 use Rattle.std.proofs.lemmas.Bool.Decides.{eqb_tells}
 use Rattle.std.proofs.lemmas.List.{append-nil, get_or-set_same, length-append, length-map}
 use Rattle.std.proofs.lemmas.Option.{same_Some, slice_get_within}
+use Rattle.std.proofs.lemmas.Grind.{common_steps}
 use Rattle.bus_batch.specs.Batches.{next_of, frame_of, phase_sent, IsShut}
 use Rattle.bus_batch.specs.Frames.{has_end, has_gone, order_of}
 use Rattle.bus_batch.specs.declared.messages.Mark.{Mark}
@@ -39,7 +40,6 @@ use Rattle.bus_tenure.specs.Seen.{tenure_of}
 use Rattle.bus_tenure.specs.Situations.{IsClosed, IsIdle, IsSpent, LooksAtStage, Elects, TakesPage}
 use Rattle.bus_tenure.specs.Situations.{AwaitsPage, StoresWord, StoresLength, GivesBack, HasHanded}
 use Rattle.bus_tenure.specs.Situations.{core_begun, core_elected, core_floored, core_at_rest, waits}
-use Rattle.bus_core.specs.Reusing.Passing.{passing_fed}
 use Rattle.bus_tenure.specs.declared.pages.Page.{Page}
 use Rattle.bus_tenure.specs.declared.phases.Phase.{Phase}
 use Rattle.bus_tenure.specs.declared.phases.Phase.TheVariants as phase
@@ -52,12 +52,11 @@ use Rattle.bus_world.specs.Log.{next_number, sent_count}
 use Rattle.bus_world.specs.Waiting.{waiting_at}
 use Rattle.bus_world.proofs.FrameOfBatch.{length-items}
 use Rattle.bus_world.proofs.LogLaws.{next-append_owner}
-use Rattle.bus_world.specs.Private.Tenures.Stage.{Open, Held}
 use Rattle.bus_world.specs.Private.Tenures.Standing.{Holds}
 use Rattle.bus_world.proofs.Places.{got_split}
 use Rattle.bus_world.proofs.Stopping.{shown_there}
 use Rattle.bus_world.specs.Trails.{step_action, put_actions, mark_actions, actions_with}
-use Rattle.bus_world.specs.Turning.{after_step, core_with_page, words_after}
+use Rattle.bus_world.specs.Turning.{after_step, core_with_page}
 use Rattle.bus_tenure.specs.declared.turns.Turn.{Turn as Answered}
 use Rattle.bus_world.specs.World.{Event, Put, Ask, Turn, Recv, Stop, Gone}
 use Rattle.bus_world.specs.declared.events.Answer.{Answer}
@@ -75,9 +74,8 @@ use Rattle.bus_machine.proofs.Bases.Leading.{sits_unforked}
 use Rattle.bus_machine.proofs.Tenures.PinBounds.{PinFits, kept_of}
 use Rattle.bus_machine.proofs.Onward.StageRises.{rises}
 use Rattle.bus_machine.proofs.Frames.Staying.{grown_longer}
-use Rattle.bus_machine.specs.Machine.{base_of, Machine, Trails, Reached, New as Start}
-use Rattle.bus_machine.specs.Machine.{Joins, Forks, trails_joined}
-use Rattle.bus_machine.specs.Machine.{Then as Next, Happens, TakesTurn, IsNew, IsOnWord}
+use Rattle.bus_machine.specs.Machine.{base_of, Machine, Trails, Reached, New as Start, Joins, Forks}
+use Rattle.bus_machine.specs.Machine.{trails_joined, Then as Next, Happens, TakesTurn, IsNew}
 use Rattle.bus_machine.specs.Machine.{trails_grown, turn_grown, turn_answer, found, has_stopped}
 use Rattle.bus_machine.specs.Machine.{moved, put_in, mark_in, no_machine_trails, stage_of}
 use Rattle.bus_machine.specs.Promise.{pin_of}
@@ -112,10 +110,7 @@ module _ {E : Type 0} (P : Protocol E (Unit {0}) ℕ) (m : Machine E) (T : Trail
 
   -- a tenure that has opened
   opened_by : (t : ℕ) → t ≤ f.sending.tenures.ended → 2 * t ≤ stage_of m
-  opened_by t low = elim f.sending.tenures.stage_is [
-    | Open stage here many ↦ (let same = f.stage in omega arith)
-    | Held holder stage away many holds ↦ (let same = f.stage in omega arith)
-  ]
+  opened_by t low = grind (arith, common_steps)
 
   stands : (ph : Phase E) → v.core.phase ≡ ph
       → of_some standing_of (f.cores p) ≡ Some (stands_at ph)
@@ -154,11 +149,7 @@ module _ {E : Type 0} (P : Protocol E (Unit {0}) ℕ) (m : Machine E) (T : Trail
       → length
       (map (λ (i : Item). i.message) (of_sender p (order_of f.frames)) ++ waiting_at v.core ph)
       ≡ its_count + length (waiting_at v.core ph)
-  many_put ph =
-      let sent_now = map (λ (i : Item). i.message) (of_sender p (order_of f.frames)) in
-      length-append sent_now (waiting_at v.core ph)
-      ∙ ap (λ n. n + length (waiting_at v.core ph))
-      (length-map (of_sender p (order_of f.frames)) (λ (i : Item). i.message))
+  many_put ph = grind (arith, common_steps, map, length-append, length, length-map)
 
   numbers_by : (ph : Phase E) → Fits (base_of m) f.V f.frames v.core ph
       → next_of v.core.queue ≡ its_next + length (waiting_at v.core ph)
@@ -184,9 +175,7 @@ module _ {E : Type 0} (P : Protocol E (Unit {0}) ℕ) (m : Machine E) (T : Trail
   numbers_by (phase.Giving u reason) fits = absurd fits
 
   pub numbered : next_of v.core.queue ≡ base_of m p + length (puts (T.actions p))
-  numbered =
-      let a = numbers_by v.core.phase part.fits in
-      let b = many_put v.core.phase in let d = ap length (f.puts p v at) in omega arith
+  numbered = grind (arith, numbers_by, part, many_put, length)
 
   pub itself : IsItself m p v
   itself = record { me = part.me; layout = part.layout; marks = part.sender }
@@ -197,11 +186,7 @@ module _ {E : Type 0} (P : Protocol E (Unit {0}) ℕ) (m : Machine E) (T : Trail
       let gone : has_gone v.core.me (order_of f.frames) ≡ true =
       ap (λ n. has_gone n (order_of f.frames)) part.me
       ∙ ap (has_gone p) (order_same P m T f left.order left.owners left.spelled) ∙ left.left in
-      elim (left_by (base_of m) f.V f.frames v.core 0 v.core.phase part.fits
-      (part.sender ∙ sym part.me) gone) [
-        | inl closed ↦ inl closed
-        | inr now ↦ inr record { tenure = now.0; published = now.1; leaves = now.2 }
-      ]
+      grind (arith, common_steps, left_by, part)
 
   pub busy_within : (t : ℕ) → tenure_of v.core.phase ≡ Some t → v.core.queue.busy ≡ true
   busy_within t e = busy_in v.core.phase part.fits t e
@@ -211,13 +196,7 @@ module _ {E : Type 0} (P : Protocol E (Unit {0}) ℕ) (m : Machine E) (T : Trail
 
   -- who has begun none rests
   unbegun_idle : tenure_of v.core.phase ≡ None → v.core.queue.busy ≡ false
-  unbegun_idle e = by v.core.phase refl e where
-    by : (ph : Phase E) → v.core.phase ≡ ph → tenure_of ph ≡ None → v.core.queue.busy ≡ false
-    by phase.Resting is e = idle_resting is
-    by (phase.Electing u k) is e = absurd cc
-    by (phase.Taken u) is e = absurd cc
-    by (phase.Holding u page stored published) is e = absurd cc
-    by (phase.Giving u reason) is e = absurd cc
+  unbegun_idle e = grind (arith, common_steps, idle_resting)
 
   -- likewise as a put sees it
   busy_by : (pin : Pin) (t : ℕ) → tenure_begun_by v.core pin ≡ Some t
@@ -258,10 +237,7 @@ module _ {E : Type 0} (stage s : ℕ) (actions : List Action) (c : Core E)
   past_opened t (inr lost) = lost.opened
 
   entry_opened : (t : ℕ) → t < entry c → 2 * t ≤ stage
-  entry_opened t low = by (tenure_of c.phase) refl low where
-    by : (o : Option ℕ) → tenure_of c.phase ≡ o → t < entry_from o c.least → 2 * t ≤ stage
-    by None i low = past_opened t (past t low)
-    by (Some u) i low = let opened = in_it u i in omega arith
+  entry_opened t low = grind (arith, common_steps, entry_from, past_opened)
 
   pinned_opened : (u : Pin) (named : Option ℕ) → PinFits (entry c) u stage named → (t : ℕ)
       → tenure_begun_by c u ≡ Some t → 2 * t ≤ stage
@@ -371,11 +347,7 @@ module _ {E : Type 0} (X : Election E) (P : Protocol E (Unit {0}) ℕ) (m m' : M
       → (c'.queue.phase ≡ batch.Closed → c.queue.phase ≡ batch.Closed)
       → ((asked : Mark) → Asked asked (T'.actions s) → IsShut c'.queue) → c'.least ≡ c.least
       → Recalls m' T'.log s c' (T'.actions s)
-  alike s c c' w shut asks same = record {
-    closed = λ i. closed_on s (w.closed (shut i));
-    asked = asks;
-    past = λ t low. past_on s t (w.past t (omega arith));
-  }
+  alike s c c' w shut asks same = grind (arith, closed_on, past_on)
 
   -- one sender is another, and has done this
   one_other : (s : ℕ) (v v' : Sender E) (ds : List Action) → slice_get m.senders s ≡ Some v
@@ -423,12 +395,8 @@ module _ {E : Type 0} (X : Election E) (P : Protocol E (Unit {0}) ℕ) (m m' : M
 
   closed_too : (s : ℕ) → HasEnded m T.log ⊎ HasLeftIt m T.log s
       → HasEnded m' U'.log ⊎ HasLeftIt m' U'.log s
-  closed_too s (inl ended) = inl
-      (still_ended P m m' T U' (forks_reuse X m m' i j h).0 g' same_log
-      ended)
-  closed_too s (inr left) = inr
-      (still_left P m m' T U' s (forks_reuse X m m' i j h).0 g' same_log
-      left)
+  closed_too s (inl ended) = grind (arith, common_steps, still_ended, forks_reuse, g', same_log)
+  closed_too s (inr left) = grind (arith, common_steps, still_left, forks_reuse, g', same_log)
 
   fork_recalls : AllRecall m' U'
   fork_recalls q w here =
@@ -436,9 +404,7 @@ module _ {E : Type 0} (X : Election E) (P : Protocol E (Unit {0}) ℕ) (m m' : M
       ∙ here) in record {
         closed = λ shut. closed_too q (old.closed shut);
         asked = old.asked;
-        past = λ t low. past_more (stage_of m) (stage_of m') q (T.actions q) (T.actions q) t
-            (fork_rises m m' i j h)
-            (record { rest = []; together = append-nil (T.actions q) }) (old.past t low);
+        past = λ t low. grind (arith, common_steps, past_more, fork_rises, append-nil);
       }
 
 -- a turn
@@ -477,14 +443,7 @@ module _ {E : Type 0} (X : Election E) (P : Protocol E (Unit {0}) ℕ) (m m' : M
   did z = added z (line X v z) (got z) word (turn_answer m (line X v z) word)
 
   pub done : (z : Situation E) → situation X v ≡ z → U.actions s ≡ T.actions s ++ did z
-  done z i =
-      ap (λ o. (trails_grown X m (Turn s word) o T).actions s) h.answered
-      ∙ ap
-      (λ o. (turn_grown X m s o word (answer.Turn (turn_answer m (line_now X v) word)) T).actions s)
-      h.goes
-      ∙ ap (λ (D : ℕ → List Action). D s) (added_is (situation X v) (line_now X v) s
-      (got (situation X v)) word (turn_answer m (line_now X v) word) T)
-      ∙ actions_of_it s (did (situation X v)) T.actions s refl ∙ ap (λ y. T.actions s ++ did y) i
+  done z i = grind (arith, common_steps, added_is, actions_of_it)
 
   -- it has asked for no mark with it
   asked_old : (asked : Mark) → Asked asked (U.actions s) → Asked asked (T.actions s)
@@ -545,16 +504,7 @@ module _ {E : Type 0} (X : Election E) (P : Protocol E (Unit {0}) ℕ) (m m' : M
 
     -- it has a kind
     pub has_kind : (q : Kind) × (X.kind_of e ≡ Some q)
-    has_kind = elim (some_or_none (X.kind_of e)) [
-      | inr q ↦ q
-      | inl missing ↦ absurd (elim (some_or_none (X.op e word)) [
-        | inr o ↦
-            true≢false (ap is_some (sym o.1) ∙ sym (sits.serves.named e word) ∙ ap is_some missing)
-        | inl stop ↦ true≢false
-            (sym (ap is_some (sits.serves.owner_is e) ∙ (sits.serves.laws.ends e word stop).0)
-            ∙ runs.1)
-      ])
-    ]
+    has_kind = grind (arith, common_steps, some_or_none, true≢false, is_some, runs)
 
     abbrev e' : E
     e' = X.fed e (got (Does (Elects t e))) word
@@ -574,9 +524,7 @@ module _ {E : Type 0} (X : Election E) (P : Protocol E (Unit {0}) ℕ) (m m' : M
           step = q.0;
           found = n;
           answer = told;
-          at =
-              ap (λ l. slice_get l (length (T.actions s))) added_now
-              ∙ push_here (T.actions s) d (length (T.actions s)) refl;
+          at = grind (arith, common_steps, slice_get, length, push_here);
         }
 
     -- it has lost this tenure, and all before have ended
@@ -623,11 +571,7 @@ module _ {E : Type 0} (X : Election E) (P : Protocol E (Unit {0}) ℕ) (m m' : M
   stage_given : (t : ℕ) (page : Page) (reason : Reason)
       → situation X v ≡ Does (GivesBack t page reason) → stage_of m' ≡ 2 * t + 2
   stage_given t page reason i =
-      let now : line_now X v ≡ line X v (Does (GivesBack t page reason)) = ap (line X v) i in
-      let there : 1 < length m.words = subst (λ l. IsOnWord m (l.op word)) now h.within in
-      let words : m'.words ≡ slice_set m.words 1 (2 * t + 2) =
-      ap (λ (y : Machine E). y.words) h.after ∙ ap (λ l. words_after m.words (l.op word)) now in
-      ap (λ l. slice_index l 1) words ∙ get_or-set_same m.words 1 (2 * t + 2) 0 there
+      grind (arith, common_steps, length, slice_set, slice_index, get_or-set_same)
 
   -- its batch is closed for its mark, or for an end mark that it found
   shut_sent : (q : BatchPhase) → v.core.queue.phase ≡ q
@@ -705,9 +649,7 @@ module _ {E : Type 0} (X : Election E) (P : Protocol E (Unit {0}) ℕ) (m m' : M
   by_turn (Withdraws t) i = good v.core (λ j. j) refl refl
   by_turn (Scans q) i = good v.core (λ j. j) refl refl
   by_turn (Clears q) i = good v.core (λ j. j) refl refl
-  by_turn (ReadsPassed t p) i =
-      let l = passing_fed p (got (ReadsPassed t p)) in
-      floored l.least (l.loaded == v.core.layout.passers)
+  by_turn (ReadsPassed t p) i = grind (arith, common_steps, floored)
 
   turn_recalls : AllRecall m' U
   turn_recalls =
@@ -755,12 +697,7 @@ module _ {E : Type 0} (X : Election E) (P : Protocol E (Unit {0}) ℕ) where
       none_other X P m m' T (Gone q) a sits r h k (ap (λ (y : Machine E). y.senders) h.after) refl
 
   new_recalls : (m : Machine E) → IsNew m → AllRecall m no_machine_trails
-  new_recalls m new s v at =
-      subst (λ (y : Sender E). Recalls m [] s y.core []) (sym (new.senders s v at).1) record {
-        closed = λ j. absurd (let bad : batch.Open ≡ batch.Closed = j in cc);
-        asked = λ asked j. absurd (nothing_asks asked j);
-        past = λ t small. absurd (omega arith);
-      }
+  new_recalls m new s v at = grind (arith, common_steps, nothing_asks)
 
   pub all_recall : (m : Machine E) (T : Trails) → Sits X P m → Reached X m T → AllRecall m T
   all_recall m T sits (Start n new) = new_recalls n new

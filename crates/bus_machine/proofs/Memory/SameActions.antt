@@ -1,6 +1,7 @@
 -- Who did the same in a tenure says the same of it.
 use Rattle.std.proofs.Common.{◌≡◌, ℕ, zero, suc, ◌==◌, Bool, true, false, cond, eq-eqb, Some, List}
-use Rattle.std.proofs.Common.{[], ◌∷◌, filter, slice_get, refl, sym, ◌∙◌, ap}
+use Rattle.std.proofs.Common.{[], ◌∷◌, filter, slice_get, refl, sym, ◌∙◌, ap, arith}
+use Rattle.std.proofs.lemmas.Grind.{common_steps}
 use Rattle.bus_world.specs.Headline.{Action}
 use Rattle.bus_machine.specs.Promise.{actions_in, is_in}
 use Rattle.bus_machine.specs.Refusals.{SaysNoMore}
@@ -11,9 +12,7 @@ module _ {A : Type 0} (p : A → Bool) where
   stays_in : (xs : List A) (i : ℕ) (a : A) → slice_get xs i ≡ Some a → p a ≡ true
       → (j : ℕ) × (slice_get (filter p xs) j ≡ Some a)
   stays_in [] i a at passes = absurd cc
-  stays_in (x ∷ xs) zero a at passes =
-      let same : x ≡ a = cc in
-      (0, ap (λ b. slice_get (cond b (x ∷ filter p xs) (filter p xs)) 0) (ap p same ∙ passes) ∙ at)
+  stays_in (x ∷ xs) zero a at passes = grind (arith, common_steps, slice_get, filter)
   stays_in (x ∷ xs) (suc i) a at passes = by_test (p x) (stays_in xs i a at passes)
     where
       by_test : (b : Bool) → (j : ℕ) × (slice_get (filter p xs) j ≡ Some a)
@@ -47,14 +46,4 @@ module _ (t : ℕ) (before after : List Action)
   itself = eq-eqb t t refl
 
   pub says_no_more : SaysNoMore t before after
-  says_no_more = record {
-    announced = λ w.
-        let was = done_before w.place _ w.at itself in
-        record { place = was.0; found = w.found; chose = w.chose; answer = w.answer; at = was.1 };
-    elected = λ o w.
-        let was = done_before w.place _ w.at itself in
-        record { place = was.0; step = w.step; found = w.found; answer = w.answer; at = was.1 };
-    took = λ place w.
-        let was = done_before place _ w.at itself in
-        (was.0, record { found = w.found; chose = w.chose; answer = w.answer; at = was.1 });
-  }
+  says_no_more = grind (arith, common_steps, done_before, itself)

@@ -1,27 +1,24 @@
 -- The stage leaves that of an open tenure only by who takes its page.
-use Rattle.std.proofs.Common.{◌≡◌, ◌≢◌, ℕ, ◌+◌, ◌*◌, ◌<◌, Option, Some, None, length, slice_get}
-use Rattle.std.proofs.Common.{slice_index, slice_set, arith, refl, ◌∙◌, ap, subst}
+use Rattle.std.proofs.Common.{◌≡◌, ◌≢◌, ℕ, ◌+◌, ◌*◌, Option, Some, None, length, slice_get}
+use Rattle.std.proofs.Common.{slice_index, slice_set, arith, refl, ◌∙◌, ap}
 use Rattle.std.proofs.lemmas.List.{get_or-set_same}
+use Rattle.std.proofs.lemmas.Grind.{common_steps}
 use Rattle.bus_core.specs.Senders.{Sender, Situation, Does, Announces, Validates, Unpins}
 use Rattle.bus_core.specs.Senders.{Withdraws, Scans, Clears, ReadsPassed, situation}
-use Rattle.bus_core.specs.Table.{line, line_now}
+use Rattle.bus_core.specs.Table.{line}
 use Rattle.bus_core.specs.Reusing.Keeping.{held_of}
 use Rattle.bus_machine.proofs.Tenures.Own.{own_of}
-use Rattle.bus_machine.specs.Machine.{Machine, Trails, Happens, TakesTurn, IsOnWord, going}
-use Rattle.bus_machine.specs.Machine.{has_stopped, turn_answer, trails_grown, stage_of}
+use Rattle.bus_machine.specs.Machine.{Machine, Trails, Happens, TakesTurn, has_stopped, stage_of}
 use Rattle.bus_machine.specs.Promise.{IsPromised, IsPagedBy}
-use Rattle.bus_machine.specs.Telling.{Tells, TakesStage, OpensOnly, SenderTells, EventTells}
+use Rattle.bus_machine.specs.Telling.{Tells, TakesStage, OpensOnly}
 use Rattle.bus_tenure.proofs.Situated.{tells as phase_tells}
 use Rattle.bus_tenure.specs.Core.{Election, stage_at}
 use Rattle.bus_tenure.specs.Situations.{IsClosed, IsIdle, IsSpent, LooksAtStage, Elects, TakesPage}
 use Rattle.bus_tenure.specs.Situations.{AwaitsPage, StoresWord, StoresLength, GivesBack, HasHanded}
-use Rattle.bus_tenure.specs.Situations.{situation_of}
 use Rattle.bus_tenure.specs.declared.pages.Page.{Page}
-use Rattle.bus_tenure.specs.declared.turns.Turn.TheVariants as turn
-use Rattle.bus_world.specs.Turning.{home_moved, words_after}
+use Rattle.bus_world.specs.Turning.{home_moved}
 use Rattle.bus_world.specs.World.{Event, Put, Ask, Turn, Recv, Stop, Gone}
 use Rattle.bus_world.specs.declared.events.Answer.{Answer}
-use Rattle.bus_world.specs.declared.events.Answer.TheVariants as answer
 use Rattle.bus_world.proofs.Stopping.{shown_there}
 
 -- an even number is no odd one
@@ -47,11 +44,7 @@ module _ {E : Type 0} (X : Election E) (m m' : Machine E) (T T' : Trails) (e : E
 
   -- where the page stays at home, so does the stage
   page_stays : m'.home ≡ m.home → TakesStage X m e a m' t
-  page_stays i =
-      let k = subst (IsPagedBy (stage_of m') (slice_index m'.words 0) p'.order.ended) (i ∙ here.1)
-      p'.by.paged in
-      absurd
-      (leaves (k.0 ∙ ap (λ n. 2 * n) (same_half (stage_of m) here.0.tenures t here.2 opened)))
+  page_stays i = grind (arith, common_steps, slice_index, here, same_half)
 
   module _ (s word : ℕ) (is : e ≡ Turn s word) (h : TakesTurn X m s word a m') where
     abbrev v : Sender E
@@ -64,28 +57,7 @@ module _ {E : Type 0} (X : Election E) (m m' : Machine E) (T T' : Trails) (e : E
     held u k = absurd (even_odd (stage_of m) t u opened (p.by.holds s v u at k))
 
     takes : situation X v ≡ Does (TakesPage t) → TakesStage X m e a m' t
-    takes i =
-        let now : line_now X v ≡ line X v (Does (TakesPage t)) = ap (line X v) i in
-        let own : a ≡ answer.Turn (turn.Own t) =
-        h.answered ∙ ap (λ l. answer.Turn (turn_answer m l word)) now in
-        let low : 1 < length m.words = subst (λ l. IsOnWord m (l.op word)) now h.within in
-        let words : m'.words ≡ slice_set m.words 1 (2 * t + 1) =
-        ap (λ (y : Machine E). y.words) h.after ∙ ap (λ l. words_after m.words (l.op word)) now in
-        record {
-          sender = s;
-          word = word;
-          event = is;
-          own = own;
-          stage = ap (λ l. slice_index l 1) words ∙ get_or-set_same m.words 1 (2 * t + 1) 0 low;
-          elected = λ U r.
-              (subst (λ o.
-              SenderTells m U.log s o ((trails_grown X m e a U).actions s)
-              (answer.Turn (turn.Own t)))
-              h.goes
-              (subst (λ w. SenderTells m U.log s (going m s) ((trails_grown X m e a U).actions s) w)
-              own
-              (subst (λ f. EventTells m U.log f a (trails_grown X m e a U)) is (told U r)))).0;
-        }
+    takes i = grind (arith, common_steps, length, slice_set, slice_index, get_or-set_same)
 
     quiet : (z : Situation E) → situation X v ≡ z → home_moved (line X v z).move m.home ≡ m.home
         → TakesStage X m e a m' t
@@ -96,13 +68,8 @@ module _ {E : Type 0} (X : Election E) (m m' : Machine E) (T T' : Trails) (e : E
     by_turn (Does (TakesPage u)) i = takes (i
         ∙ ap (λ n. Does (TakesPage n))
         (same_half (stage_of m) u t (p.by.finds s v u at i).stage opened))
-    by_turn (Does (AwaitsPage u)) i = held u (ap held_of
-        (phase_tells X v.core (AwaitsPage u)
-        (own_of v.core.layout.passers v.reuse (situation_of X v.core) (AwaitsPage u) i)))
-    by_turn (Does (GivesBack u page reason)) i = held u
-        (ap held_of (phase_tells X v.core (GivesBack u page reason)
-        (own_of v.core.layout.passers v.reuse (situation_of X v.core) (GivesBack u page reason)
-        i)).2)
+    by_turn (Does (AwaitsPage u)) i = grind (arith, common_steps, held, phase_tells, own_of)
+    by_turn (Does (GivesBack u page reason)) i = grind (arith, held, phase_tells, own_of)
     by_turn (Does IsClosed) i = quiet (Does IsClosed) i refl
     by_turn (Does IsIdle) i = quiet (Does IsIdle) i refl
     by_turn (Does IsSpent) i = quiet (Does IsSpent) i refl
@@ -123,12 +90,8 @@ pub opens_only :
     {E : Type 0} (X : Election E) (m m' : Machine E) (T T' : Trails) (e : Event) (a : Answer)
     → IsPromised X m T → IsPromised X m' T' → Tells X m e a → Happens X m e a m'
     → OpensOnly X m e a m'
-opens_only {E} X m m' T T' (Put s bytes) a p p' told h t opened leaves =
-    same_words X m m' T T' (Put s bytes) a p p' told t opened leaves
-    (ap (λ (y : Machine E). y.words) h.after)
-opens_only {E} X m m' T T' (Ask s asked) a p p' told h t opened leaves =
-    same_words X m m' T T' (Ask s asked) a p p' told t opened leaves
-    (ap (λ (y : Machine E). y.words) h.after)
+opens_only {E} X m m' T T' (Put s bytes) a p p' told h t opened leaves = grind (arith, same_words)
+opens_only {E} X m m' T T' (Ask s asked) a p p' told h t opened leaves = grind (arith, same_words)
 opens_only {E} X m m' T T' (Turn s word) a p p' told h t opened leaves = by_turn X m m' T T'
     (Turn s word) a p p' told t opened leaves s word refl h (situation X h.sender) refl
 opens_only {E} X m m' T T' (Recv r) a p p' told h t opened leaves = page_stays X m m' T T' (Recv r)

@@ -1,19 +1,13 @@
 -- Whatever happens, the stage never falls.
-use Rattle.std.proofs.Common.{◌≡◌, ◌≢◌, inl, inr, ℕ, ◌+◌, ◌*◌, ◌%◌, ◌<◌, ◌≤◌, is_some, Option}
-use Rattle.std.proofs.Common.{Bool, true, false, cond, ◌==◌, ◌&&◌, nat_lt, Some}
-use Rattle.std.proofs.Common.{None, List, length, slice_get, slice_index, slice_set, arith, refl}
-use Rattle.std.proofs.Common.{sym, ◌∙◌, ap, subst}
+use Rattle.std.proofs.Common.{◌≡◌, ◌≢◌, ℕ, ◌+◌, ◌*◌, ◌<◌, ◌≤◌, is_some, Option, nat_lt, Some, None}
+use Rattle.std.proofs.Common.{List, length, slice_get, slice_index, slice_set, arith, refl, sym}
+use Rattle.std.proofs.Common.{◌∙◌, ap, subst}
 use Rattle.std.proofs.lemmas.Bool.{cases_eq}
 use Rattle.std.proofs.lemmas.List.{get_or-set_same, get_or-set_other}
-use Rattle.bus_batch.specs.Batches.{frame_of}
-use Rattle.bus_batch.specs.Frames.{frame_words}
-use Rattle.bus_batch.specs.Reading.{is_between}
+use Rattle.std.proofs.lemmas.Grind.{common_steps}
 use Rattle.bus_core.proofs.Situated.{own_is}
-use Rattle.bus_deliverylog.specs.Receiving.{Receiving, passing_due, op_by, receiving_op}
-use Rattle.bus_deliverylog.specs.Receiving.{leaving_by, leaving_op}
-use Rattle.bus_register.specs.declared.limits.TheConstants.{PASSED_ALL}
+use Rattle.bus_deliverylog.specs.Receiving.{Receiving, passing_due, receiving_op, leaving_op}
 use Rattle.bus_core.specs.Reusing.Keeping.{held_of}
-use Rattle.bus_core.specs.Reusing.Participants.{sizes_with}
 use Rattle.bus_core.specs.Senders.{Sender, Situation, Does, Announces, Validates, Unpins}
 use Rattle.bus_core.specs.Senders.{Withdraws, Scans, Clears, ReadsPassed, log_start}
 use Rattle.bus_core.specs.Senders.{passed_start, situation_by, situation}
@@ -27,14 +21,14 @@ use Rattle.bus_register.specs.Words.{register}
 use Rattle.bus_register.specs.declared.registers.Op.{Op}
 use Rattle.bus_register.specs.declared.registers.Op.TheVariants.{Load, Store}
 use Rattle.bus_tenure.proofs.Situated.{tells}
-use Rattle.bus_tenure.specs.Core.{Election, Layout, stage_at, cell_of, frame_len}
+use Rattle.bus_tenure.specs.Core.{Election, Layout, stage_at, frame_len}
 use Rattle.bus_tenure.specs.Situations.{Situation as Own, IsClosed, IsIdle, IsSpent, LooksAtStage}
 use Rattle.bus_tenure.specs.Situations.{Elects, TakesPage, AwaitsPage, StoresWord, StoresLength}
 use Rattle.bus_tenure.specs.Situations.{GivesBack, HasHanded, situation_of}
 use Rattle.bus_tenure.specs.declared.phases.Phase.TheVariants as phase
 use Rattle.bus_world.proofs.TenuresLaws as tenures
 use Rattle.bus_world.proofs.Stopping.{shown_there}
-use Rattle.bus_world.specs.Private.Sending.{Fits, standing_of, stands_at, least_of}
+use Rattle.bus_world.specs.Private.Sending.{standing_of, stands_at, least_of}
 use Rattle.bus_world.specs.Turning.{words_after}
 use Rattle.bus_world.specs.World.{Event, Put, Ask, Turn, Recv, Stop, Gone}
 use Rattle.bus_world.specs.declared.events.Answer.{Answer}
@@ -44,20 +38,16 @@ use Rattle.bus_machine.proofs.Frames.Framed.{IsFramed, framed, reuses}
 use Rattle.bus_machine.proofs.Frames.Knowing.{its_part}
 use Rattle.bus_machine.proofs.Bases.Leading.{Sits}
 use Rattle.bus_machine.proofs.Frames.Paging.{takes_it, holds_it}
-use Rattle.bus_machine.specs.Machine.{base_of, Machine, Trails, Reached, TakesTurn, Happens}
-use Rattle.bus_machine.specs.Machine.{IsOnWord, has_stopped, log_place, machine_after, stage_of}
+use Rattle.bus_machine.specs.Machine.{Machine, Trails, Reached, TakesTurn, Happens, IsOnWord}
+use Rattle.bus_machine.specs.Machine.{has_stopped, log_place, machine_after, stage_of}
 use Rattle.bus_machine.specs.Remembering.{rows_in}
-use Rattle.bus_machine.specs.Promise.{ReusesRows, ReusesSafely, reclamation_of}
+use Rattle.bus_machine.specs.Promise.{ReusesRows, ReusesSafely}
 
 -- a load leaves all words
 pub loads_same : (xs : List ℕ) (r q : ℕ) → r < length xs
     → slice_index (slice_set xs r (slice_index xs r)) q ≡ slice_index xs q
-loads_same xs r q l = elim (cases_eq q r) [
-  | inl i ↦
-      ap (slice_index (slice_set xs r (slice_index xs r))) i
-      ∙ get_or-set_same xs r (slice_index xs r) 0 l ∙ ap (slice_index xs) (sym i)
-  | inr ne ↦ get_or-set_other xs r q (slice_index xs r) 0 ne
-]
+loads_same xs r q l =
+    grind (arith, common_steps, cases_eq, slice_index, slice_set, get_or-set_same, get_or-set_other)
 
 -- the log begins behind length and stage
 pub log_behind : (x : Layout) (o : Option ℕ) → 2 ≤ log_place x o
@@ -110,17 +100,13 @@ module _ {E : Type 0} (X : Election E) (P : Protocol E (Unit {0}) ℕ) (m m' : M
       → (line X v z).op word ≡ Some (Load record { 0 = r })
       → Rises z
   loads z r i due =
-      let low : r < length m.words = subst (IsOnWord m) due (on_word z i) in
-      becomes z (slice_set m.words r (slice_index m.words r)) (ap (words_after m.words) due)
-      (let same = loads_same m.words r stage_at low in omega arith)
+      grind (arith, common_steps, length, on_word, becomes, slice_set, slice_index, loads_same)
 
   -- with a step on another word than the stage
   beside : (z : Situation E) (o : Op) → (line X v z).op word ≡ Some o → register o ≢ stage_at
       → Rises z
-  beside z o due apart = becomes z (words_after m.words (Some o)) (ap (words_after m.words) due)
-      (let same : slice_index (words_after m.words (Some o)) stage_at ≡ stage_of m =
-      get_or-set_other m.words (register o) stage_at _ 0 (λ e. apart (sym e)) in
-      omega arith)
+  beside z o due apart =
+      grind (arith, common_steps, becomes, slice_index, get_or-set_other, register)
 
   -- with a store of its presence
   presences : (z : Situation E) (n : ℕ)
@@ -132,9 +118,7 @@ module _ {E : Type 0} (X : Election E) (P : Protocol E (Unit {0}) ℕ) (m m' : M
       → (line X v z).op word ≡ Some (Store record { 0 = stage_at } n)
       → stage_of m ≤ n → Rises z
   stages z n i due up =
-      let low : stage_at < length m.words = subst (IsOnWord m) due (on_word z i) in
-      becomes z (slice_set m.words stage_at n) (ap (words_after m.words) due)
-      (let now = get_or-set_same m.words stage_at n 0 low in omega arith)
+      grind (arith, common_steps, length, on_word, becomes, slice_set, get_or-set_same)
 
   -- it clears a word of a row
   clears : (r : Reuse) → v.reuse ≡ Some r → (q : Reclaiming) → situation X v ≡ Clears q
@@ -143,10 +127,7 @@ module _ {E : Type 0} (X : Election E) (P : Protocol E (Unit {0}) ℕ) (m m' : M
       let same : Some r.rows ≡ m.reuse = sym (ap rows_in again) ∙ f.rows s v at in
       let its : ReusesRows X m T r.rows = subst (ReusesSafely X m T) (sym same) u in
       let c = clearing X v q i in
-      let mine : its.reclaimer ≡ Some q = sym (its.holder s v c.tenure at c.held) ∙ c.reclaims in
-      let place = (clears_at (sizes_with m.layout r.rows) (reclamation_of m its.reclaimer) T.pins
-      its.safe q mine c.step).1 in
-      beside (Clears q) (Store record { 0 = q.row + q.cleared } 0) refl (λ e. omega arith)
+      grind (arith, at, clears_at, beside)
 
   -- ---- a step of its election
   module _ (t : ℕ) (e : E) (i : situation X v ≡ Does (Elects t e)) where
@@ -186,10 +167,7 @@ module _ {E : Type 0} (X : Election E) (P : Protocol E (Unit {0}) ℕ) (m m' : M
       stages (Does (TakesPage t)) (2 * t + 1) i refl (omega arith)
   by_turn (Does (AwaitsPage t)) i = idles (Does (AwaitsPage t)) refl
   by_turn (Does (StoresWord t page stored)) i =
-      let behind = start_behind v.core.layout v.reuse in
-      beside (Does (StoresWord t page stored)) (Store record {
-        0 = log_start v.core.layout v.reuse + cell_of v.core.layout (page.words + stored);
-      } (slice_index (frame_words (frame_of v.core.queue t)) stored)) refl (λ e. omega arith)
+      grind (arith, common_steps, start_behind, beside, slice_index)
   by_turn (Does (StoresLength t page stored)) i = beside (Does (StoresLength t page stored))
       (Store record { 0 = 0 } (page.words + frame_len v.core)) refl (λ e. omega arith)
   by_turn (Does (GivesBack t page reason)) i =
@@ -197,10 +175,7 @@ module _ {E : Type 0} (X : Election E) (P : Protocol E (Unit {0}) ℕ) (m m' : M
       (tells X v.core (GivesBack t page reason) (own_is X v (GivesBack t page reason) i)).2 in
       let stage = holds_it X P m T sits f s v t at held in
       stages (Does (GivesBack t page reason)) (2 * t + 2) i refl (omega arith)
-  by_turn (Does (HasHanded t reason)) i =
-      absurd (subst (Fits (base_of m) f.V f.frames v.core)
-      (tells X v.core (HasHanded t reason) (own_is X v (HasHanded t reason) i))
-      (its_part X P m T f s v at).fits)
+  by_turn (Does (HasHanded t reason)) i = grind (arith, common_steps, tells, own_is, its_part, at)
   by_turn (Announces t) i = presences (Announces t) (1 + t) refl
   by_turn (Validates t) i = loads (Validates t) stage_at i refl
   by_turn (Unpins t) i = presences (Unpins t) 0 refl
@@ -229,9 +204,7 @@ module _ {E : Type 0} (X : Election E) (P : Protocol E (Unit {0}) ℕ) (m m' : M
   -- a passed place is another word than the stage
   apart : (r : ℕ) (v : Receiving) → slice_get m.receivers r ≡ Some v → (place : ℕ)
       → v.passed_at ≡ Some place → stage_at ≢ place
-  apart r v at place is same =
-      let past = passed_past m.layout m.reuse r place (sym (passes_by X m T reached r v at) ∙ is) in
-      omega arith
+  apart r v at place is same = grind (arith, passed_past, passes_by)
 
   -- a store in it leaves the stage
   stores_beside : (place n : ℕ) → stage_at ≢ place
@@ -240,38 +213,16 @@ module _ {E : Type 0} (X : Election E) (P : Protocol E (Unit {0}) ℕ) (m m' : M
   stores_beside place n ne = get_or-set_other m.words place stage_at n 0 ne
 
   due_there : (v : Receiving) (place : ℕ) → passing_due v ≡ Some place → v.passed_at ≡ Some place
-  due_there v place = by (is_between v.frames.place && nat_lt v.passed v.place) where
-    by : (b : Bool) → cond b v.passed_at None ≡ Some place → v.passed_at ≡ Some place
-    by true e = e
-    by false e = absurd cc
+  due_there v place = grind (arith, common_steps, nat_lt)
 
   hears_on : (r : ℕ) (v : Receiving) → slice_get m.receivers r ≡ Some v
       → IsOnWord m (receiving_op v)
       → slice_index (words_after m.words (receiving_op v)) stage_at ≡ stage_of m
-  hears_on r v at = by v.ended (passing_due v) refl where
-    load : (b : Bool) → IsOnWord m (Some (cond b (Load record { 0 = v.length_at })
-        (Load record { 0 = v.log_at + v.place % v.log_words })))
-        → slice_index (words_after m.words (Some (cond b (Load record { 0 = v.length_at })
-        (Load record { 0 = v.log_at + v.place % v.log_words })))) stage_at ≡ stage_of m
-    load true low = loads_same m.words v.length_at stage_at low
-    load false low = loads_same m.words (v.log_at + v.place % v.log_words) stage_at low
-
-    by : (e : Bool) (d : Option ℕ) → passing_due v ≡ d
-        → IsOnWord m (cond e None (Some (op_by d v)))
-        → slice_index (words_after m.words (cond e None (Some (op_by d v)))) stage_at
-        ≡ stage_of m
-    by true d due low = refl
-    by false None due low = load (v.place == v.known) low
-    by false (Some place) due low =
-        stores_beside place v.place (apart r v at place (due_there v place due))
+  hears_on r v at = grind (arith, slice_index, loads_same, stores_beside, apart, due_there)
 
   leaves_on : (r : ℕ) (v : Receiving) → slice_get m.receivers r ≡ Some v
       → slice_index (words_after m.words (leaving_op v)) stage_at ≡ stage_of m
-  leaves_on r v at = by v.passed_at refl where
-    by : (o : Option ℕ) → v.passed_at ≡ o
-        → slice_index (words_after m.words (leaving_by o)) stage_at ≡ stage_of m
-    by None is = refl
-    by (Some place) is = stores_beside place PASSED_ALL (apart r v at place is)
+  leaves_on r v at = grind (arith, slice_index, stores_beside, apart)
 
   heard_rises : (w : List ℕ) → m'.words ≡ w → slice_index w stage_at ≡ stage_of m
       → stage_of m ≤ stage_of m'

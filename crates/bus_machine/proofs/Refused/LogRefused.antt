@@ -1,12 +1,11 @@
 -- No promise holds of a log that lacks what was put, or has a word that was never stored.
-use Rattle.std.proofs.Common.{◌≡◌, ◌⊎◌, inl, inr, ℕ, ◌+◌, ◌-◌, ◌*◌, ◌^◌, ◌<◌, ◌≤◌, List, [], ◌∷◌}
-use Rattle.std.proofs.Common.{◌++◌, drop, length, map, slice_index, arith, refl, sym, ◌∙◌, ap}
-use Rattle.std.proofs.Common.{cond, subst}
-use Rattle.std.proofs.lemmas.Grind.{flat_map-append}
+use Rattle.std.proofs.Common.{◌≡◌, ◌⊎◌, inl, inr, ℕ, ◌+◌, ◌-◌, ◌<◌, ◌≤◌, List, [], ◌∷◌, ◌++◌, drop}
+use Rattle.std.proofs.Common.{length, map, slice_index, arith, refl, sym, ◌∙◌, ap, cond, subst}
+use Rattle.std.proofs.lemmas.Grind.{flat_map-append, common_steps}
 use Rattle.std.proofs.Math.Seq.{drop-append_seam}
 use Rattle.std.proofs.lemmas.List.{length-append}
 use Rattle.bus_batch.proofs.FrameLaws.{same_log, spells_one}
-use Rattle.bus_batch.specs.Frames.{Frame, Order, body_words, frame_words, log_words}
+use Rattle.bus_batch.specs.Frames.{Frame, Order, frame_words, log_words}
 use Rattle.bus_batch.specs.declared.messages.Item.{Item}
 use Rattle.bus_deliverylog.specs.Orders.{of_sender}
 use Rattle.bus_register.specs.declared.limits.TheConstants.{PASSED_ALL}
@@ -22,25 +21,14 @@ use Rattle.bus_machine.specs.LogRefusals.{LogsRefuse, PublishedRefuse}
 
 no_zero_head : (frames : List Frame) (rest : List ℕ) → log_words frames ≡ 0 ∷ rest → ⊥
 no_zero_head [] rest e = cc
-no_zero_head (f ∷ fs) rest e = positive (f.owner.0 * 2 ^ 54) (length (body_words f.body) * 2 ^ 40)
-    f.tenure (first _ 0 _ rest e)
-  where
-    first : (x y : ℕ) (xs ys : List ℕ) → x ∷ xs ≡ y ∷ ys → x ≡ y
-    first x y xs ys e = cc
-
-    positive : (a b c : ℕ) → 2 ^ 62 + a + b + c ≡ 0 → ⊥
-    positive a b c e = omega arith
+no_zero_head (f ∷ fs) rest e = grind (arith, common_steps, length)
 
 -- where some frames end there is no place within another one
 apart : (front back rest rest' : List Frame) (f : Frame) → front ++ f ∷ rest ≡ back ++ rest'
     → (length (log_words back) ≤ length (log_words front))
     ⊎ (length (log_words front) + length (frame_words f) ≤ length (log_words back))
 apart front [] rest rest' f e = inl (omega arith)
-apart [] (g ∷ back) rest rest' f e =
-    let same : f ≡ g = cc in
-    let long = length-append (frame_words g) (log_words back) in
-    let one = ap (λ (w : Frame). length (frame_words w)) same in
-    inr (omega arith)
+apart [] (g ∷ back) rest rest' f e = grind (arith, common_steps, length-append, length)
 apart (h ∷ front) (g ∷ back) rest rest' f e =
     let same : h ≡ g = cc in
     let later : front ++ f ∷ rest ≡ back ++ rest' = cc in
@@ -55,22 +43,12 @@ apart (h ∷ front) (g ∷ back) rest rest' f e =
 none_within : (front rest : List Frame) (f : Frame) (place : ℕ)
     → IsBoundary (front ++ f ∷ rest) place → length (log_words front) < place
     → place < length (log_words front) + length (frame_words f) → ⊥
-none_within front rest f place b low high = elim (apart front b.front rest b.rest f b.frames_are) [
-  | inl a ↦ (let at = b.place_is in absurd (omega arith))
-  | inr a ↦ (let at = b.place_is in absurd (omega arith))
-]
+none_within front rest f place b low high = grind (arith, common_steps, apart)
 
 -- what stands is the words of the frames from the floor on
 last_frames : {E : Type 0} (X : Election E) (m : Machine E) (T : Trails) (k : IsPromised X m T)
     → log_of m ≡ log_words k.by.edge.rest
-last_frames X m T k =
-    let s = k.by.spelled in
-    let b = k.by.edge in
-    k.by.stands.1 ∙ ap (drop (floor_of m)) (sym s.words_are)
-    ∙ ap (λ fs. drop (floor_of m) (log_words fs)) b.frames_are
-    ∙ ap (λ n. drop n (log_words (b.front ++ b.rest))) b.place_is
-    ∙ ap (drop (length (log_words b.front))) (flat_map-append frame_words b.front b.rest)
-    ∙ drop-append_seam (log_words b.front) (log_words b.rest)
+last_frames X m T k = grind (arith, common_steps, drop, length, flat_map-append, drop-append_seam)
 
 -- what joins one front is the same
 front_off : (front xs ys : List ℕ) → front ++ xs ≡ front ++ ys → xs ≡ ys
@@ -103,9 +81,7 @@ published_refused m before f =
           other (sym (ap (λ ws. slice_index ws place) same
           ∙ index-ring (slice_index m.words) (log_place m.layout m.reuse) m.layout.capacity
           (length before) since place below));
-      other_length = λ other shown.
-          let all = length-append before (frame_words f) in
-          let many = shown.0 in other (omega arith);
+      other_length = λ other shown. grind (arith, common_steps, length-append);
       nothing = λ more shown. let many = shown.0 in omega arith;
       fallen = λ less shown. let many = shown.0 in omega arith;
       other_before = λ front long other shown.
@@ -117,13 +93,7 @@ logs_refused {E} X m T = record {
   other_words = λ other kept. other kept.by.stands;
   lost_behind_a_floor = λ page place has past low other kept.
       other (kept.by.lasts page has place past low);
-  wrapped = λ place flat low other kept.
-      let long = kept.by.stands.0 in
-      let below : place < slice_index m.words 0 = omega arith in
-      other
-      (sym (index-read (slice_index m.words) (log_place m.layout m.reuse) (slice_index m.words 0)
-      place below)
-      ∙ ap (λ ws. slice_index ws place) (kept.by.below flat));
+  wrapped = λ place flat low other kept. grind (arith, common_steps, slice_index, index-read);
   floor_within_a_frame = λ front rest f lawful are past below kept.
       let s = kept.by.spelled in
       let same = same_log m.layout.senders 0 0 s.frames (front ++ f ∷ rest) s.lawful lawful
@@ -137,12 +107,7 @@ logs_refused {E} X m T = record {
   passed_unheard = λ r v place at is stays past kept.
       let low = (kept.by.passed r v place at is stays).0 in omega arith;
   passed_within = λ r v place at is stays front rest f lawful are past below kept.
-      let s = kept.by.spelled in
-      let same = same_log m.layout.senders 0 0 s.frames (front ++ f ∷ rest) s.lawful lawful
-      (s.words_are ∙ sym are) in
-      none_within front rest f (slice_index m.words place)
-      (subst (λ fs. IsBoundary fs (slice_index m.words place)) same
-      (kept.by.passed r v place at is stays).1) past below;
+      grind (arith, same_log, none_within, slice_index);
   left_unshown = λ r v place at is left other kept.
       other ((kept.by.passes r v at).1 place is ∙ ap (λ b. cond b PASSED_ALL v.passed) left);
   dropped = λ s v order owners at spelled other kept.

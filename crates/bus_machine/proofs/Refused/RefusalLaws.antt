@@ -1,21 +1,20 @@
 -- Answers, memories and machines that the definitions refuse.
-use Rattle.std.proofs.Common.{◌+◌, ◌*◌, ◌≡◌, ◌⊎◌, inl, inr, ℕ, ◌<◌, ◌≤◌, Bool, true, false, cond}
-use Rattle.std.proofs.Common.{Option, nat_lt}
-use Rattle.std.proofs.Common.{Some, None, IsSome, List, [], ◌∷◌, ◌++◌, drop, length, map}
+use Rattle.std.proofs.Common.{◌+◌, ◌≡◌, ◌⊎◌, inl, inr, ℕ, ◌<◌, ◌≤◌, Bool, true, false, cond, Option}
+use Rattle.std.proofs.Common.{nat_lt, Some, None, IsSome, List, [], ◌∷◌, ◌++◌, drop, length, map}
 use Rattle.std.proofs.Common.{slice_get, slice_index, arith, refl, sym, ◌∙◌, ap, subst}
 use Rattle.std.proofs.Math.Nat.{mod-eq_of_lt}
 use Rattle.std.proofs.lemmas.Bool.{cases_lt, true≢false}
 use Rattle.std.proofs.lemmas.Option.{same_Some, slice_get_within}
 use Rattle.std.proofs.lemmas.List.{append-nil, drop-append-le, get_or_append_left, length-append}
 use Rattle.std.proofs.lemmas.List.{length-drop}
+use Rattle.std.proofs.lemmas.Grind.{common_steps}
 use Rattle.bus_batch.proofs.FrameLaws.{same_frame, same_log, spells_one}
 use Rattle.bus_batch.specs.Frames.{Frame, Order, Spells, AreFrames, frame_words, items_of}
-use Rattle.bus_batch.specs.Frames.{log_words, order_of, has_end, has_gone, tenure_and_owner}
+use Rattle.bus_batch.specs.Frames.{log_words, order_of, has_gone, tenure_and_owner}
 use Rattle.bus_batch.specs.declared.batches.Phase.TheVariants as batch
 use Rattle.bus_batch.specs.declared.messages.Mark.TheVariants as mark
 use Rattle.bus_batch.specs.declared.messages.Item.{Item}
 use Rattle.bus_core.specs.Senders.{Sender}
-use Rattle.bus_core.specs.declared.limits.TheConstants.{PASSED_APART}
 use Rattle.bus_register.specs.Words.{register}
 use Rattle.bus_deliverylog.specs.Orders.{of_sender}
 use Rattle.bus_core.specs.Reusing.Keeping.{held_of}
@@ -26,7 +25,7 @@ use Rattle.bus_register.specs.declared.registers.SenderNo.{SenderNo}
 use Rattle.bus_batch.specs.Batches.{frame_of}
 use Rattle.bus_core.specs.Reusing.Telling.{HasPublished, Published, HandsOnSent}
 use Rattle.bus_tenure.specs.Seen.{tenure_of}
-use Rattle.bus_tenure.specs.Core.{Election, Layout, is_leaving}
+use Rattle.bus_tenure.specs.Core.{Election, Layout}
 use Rattle.bus_tenure.specs.declared.pages.Page.{Page}
 use Rattle.bus_tenure.specs.declared.phases.Phase.{Phase}
 use Rattle.bus_tenure.specs.declared.phases.Phase.TheVariants as phase
@@ -42,18 +41,17 @@ use Rattle.bus_machine.proofs.Frames.Ending.{has_gone_last}
 use Rattle.bus_machine.proofs.Frames.Framed.{floor_first}
 use Rattle.bus_machine.proofs.Memory.SameActions.{says_no_more}
 use Rattle.bus_register.specs.Private.TableLaws.{get_set_same}
-use Rattle.bus_machine.specs.Bounding.{steps_towards, steps_of_pin, IsNamedFirst}
-use Rattle.bus_machine.specs.Machine.{base_of, Machine, Trails, TakesMark, has_stopped, mark_in}
+use Rattle.bus_machine.specs.Bounding.{steps_towards, steps_of_pin}
+use Rattle.bus_machine.specs.Machine.{base_of, Machine, Trails, TakesMark, mark_in}
 use Rattle.bus_machine.specs.Finding.{places_found}
-use Rattle.bus_machine.specs.Machine.{ShowsLog, floor_of, log_place, passed_by, passers_place}
-use Rattle.bus_machine.specs.Machine.{stage_of}
-use Rattle.bus_machine.specs.Promise.{IsPagedBy, ReusesSafely, words_joined}
+use Rattle.bus_machine.specs.Machine.{floor_of, passed_by, stage_of}
+use Rattle.bus_machine.specs.Promise.{IsPagedBy, ReusesSafely}
 use Rattle.bus_machine.specs.Machine.{words_of_frame}
 use Rattle.bus_machine.specs.Refusals.{LossesRefuse, AnswersRefuse, SaysMore, NumbersRefuse}
 use Rattle.bus_machine.specs.Refusals.{BoundsRefuse, FollowsRefuse, PagesRefuse, MemoriesRefuse}
 use Rattle.bus_machine.specs.Refusals.{WordsRefuse, MarksRefuse}
 use Rattle.bus_machine.specs.Remembering.{HasEnded, HasLeftIt, rows_in}
-use Rattle.bus_machine.specs.Telling.{ClosedTells, IsLeast}
+use Rattle.bus_machine.specs.Telling.{ClosedTells}
 use Rattle.bus_world.proofs.CyclicProtocolKept.{held_page_is}
 use Rattle.bus_world.proofs.Framing.{not_nil}
 use Rattle.bus_world.proofs.LogLaws.{index-read}
@@ -126,13 +124,7 @@ left_told : {E : Type 0} (m : Machine E) (log : List ℕ) (s t : ℕ) → HasLef
 left_told m log s t w = record {
   order = order_of (w.earlier ++ w.frame ∷ []);
   owners = map tenure_and_owner (w.earlier ++ w.frame ∷ []);
-  spelled = record {
-    frames = w.earlier ++ w.frame ∷ [];
-    lawful = w.lawful;
-    words_are = w.words_are;
-    order_is = refl;
-    owners_are = refl;
-  };
+  spelled = grind (arith, common_steps);
   left = subst (λ n. has_gone n (order_of (w.earlier ++ w.frame ∷ [])) ≡ true) w.owner
       (has_gone_last w.earlier w.frame w.says);
 }
@@ -142,35 +134,22 @@ left_last : {E : Type 0} (m : Machine E) (log : List ℕ) (s t : ℕ) (front : L
     → AreFrames m.layout.senders (front ++ f ∷ [])
     → log_words (front ++ f ∷ []) ≡ log → (w : HasLeft m.layout.senders log s t)
     → w.frame ≡ f
-left_last m log s t front f lawful are w =
-    last_one w.earlier front w.frame f
-    (same_log m.layout.senders 0 0 (w.earlier ++ w.frame ∷ []) (front ++ f ∷ []) w.lawful lawful
-    (w.words_are ∙ sym are))
+left_last m log s t front f lawful are w = grind (arith, common_steps, last_one, same_log)
 
 -- what is told delivered is the last frame of the log
 delivered_last : {E : Type 0} (m : Machine E) (log : List ℕ) (s t first last : ℕ)
     (front : List Frame) (f : Frame)
     → AreFrames m.layout.senders (front ++ f ∷ []) → log_words (front ++ f ∷ []) ≡ log
     → (w : HasDelivered m.layout.senders log s t first last) → w.frame ≡ f
-delivered_last m log s t first last front f lawful are w =
-    last_one w.earlier front w.frame f (same_log m.layout.senders 0 0 (w.earlier ++ w.frame ∷ [])
-    (front ++ f ∷ []) w.lawful lawful (w.words_are ∙ sym are))
+delivered_last m log s t first last front f lawful are w = grind (arith, last_one, same_log)
 
 -- an empty log has not ended
 none_ended : {E : Type 0} (m : Machine E) (log : List ℕ) → log ≡ [] → HasEnded m log → ⊥
-none_ended m log empty w =
-    let none = none_spelled w.spelled.frames (w.spelled.words_are ∙ empty) in
-    let ended : (order_of w.spelled.frames).ended ≡ true =
-    ap (λ (o : Order). o.ended) w.spelled.order_is ∙ w.ended in
-    true≢false (sym ended ∙ ap has_end none)
+none_ended m log empty w = grind (arith, common_steps, none_spelled, true≢false)
 
 -- and nobody has left in it
 none_left : {E : Type 0} (m : Machine E) (log : List ℕ) (s : ℕ) → log ≡ [] → HasLeftIt m log s → ⊥
-none_left m log s empty w =
-    let none = none_spelled w.spelled.frames (w.spelled.words_are ∙ empty) in
-    let gone : has_gone s (order_of w.spelled.frames) ≡ true =
-    ap (has_gone s) w.spelled.order_is ∙ w.left in
-    true≢false (sym gone ∙ ap (λ fs. has_gone s (order_of fs)) none)
+none_left m log s empty w = grind (arith, common_steps, none_spelled, true≢false)
 
 none_closed : {E : Type 0} (m : Machine E) (log : List ℕ) (s : ℕ) → log ≡ []
     → HasEnded m log ⊎ HasLeftIt m log s → ⊥
@@ -196,9 +175,7 @@ module _ {E : Type 0} (m : Machine E) where
     lost_unseen = λ t o unseen told. unseen told.0;
     lost_to_itself = λ t o same told. told.1 same;
     own_untaken = λ t untaken told. untaken told.1.0 told.1.1;
-    delivered_nothing = λ t first last empty told.
-        not_nil told.earlier told.frame
-        (none_spelled (told.earlier ++ told.frame ∷ []) (told.words_are ∙ empty));
+    delivered_nothing = λ t first last empty told. grind (arith, not_nil, none_spelled);
     delivered_elsewhere = λ t first last front f lawful are other told.
         other (ap (λ (g : Frame). g.tenure)
         (sym (delivered_last m log p t first last front f lawful are told)) ∙ told.tenure);
@@ -211,16 +188,10 @@ module _ {E : Type 0} (m : Machine E) where
         (counts_from first i (items_of told.frame) rest told.numbers (ap items_of same ∙ items));
     full_with_room = λ room told. let lacks = told.lacks in omega arith;
     full_behind_the_floor = λ t page stored published held room told.
-        let same = held_page_is told.tenure told.page told.stored told.published t page stored
-        published (sym told.holds ∙ held) in
-        let one = ap (λ (g : Page). g.floor) same in
-        let lacks = told.lacks in omega arith;
+        grind (arith, common_steps, held_page_is);
     full_unloaded = λ some other told. other (told.loaded some);
     full_by_another_floor = λ t page stored published some held other told.
-        let same = held_page_is told.tenure told.page told.stored told.published t page stored
-        published (sym told.holds ∙ held) in
-        other (subst (λ (g : Page). IsLeast g.floor (length log) (places_found actions)) same
-        (told.least some));
+        grind (arith, common_steps, held_page_is, length);
     left_without_mark = λ t order owners spelled stays told.
         stays_in m log p order owners spelled stays (left_told m log p t told);
     left_elsewhere = λ t front f lawful are other told.
@@ -236,16 +207,8 @@ module _ {E : Type 0} (m : Machine E) where
       | inl ended ↦ goes_on m log order owners spelled goes ended
       | inr left ↦ apart left.0
     ];
-    spent_before_the_last = λ stage two told. elim told [
-      | inl ended ↦ omega arith
-      | inr last ↦ (let is = last.1 in let low = last.2.opened in omega arith)
-    ];
-    spent_unseen = λ stage one none told. elim told [
-      | inl ended ↦ omega arith
-      | inr last ↦
-          (let e = last.2.elected in
-          nothing_there e.place _ (ap (λ d. slice_get d e.place) (sym none) ∙ e.at))
-    ];
+    spent_before_the_last = λ stage two told. grind (arith, common_steps);
+    spent_unseen = λ stage one none told. grind (arith, common_steps, nothing_there, slice_get);
     behind_apart = λ t q none told. true≢false (sym (subst IsSome none told));
   }
 
@@ -255,12 +218,7 @@ waits_as : {E : Type 0} (old new : Machine E) (s : ℕ) (asked : Mark) (a : Answ
     → TakesMark old s asked a new
     → slice_get new.senders s ≡ Some v → v ≡ mark_in v asked
 waits_as {E} old new s asked a v h there =
-    let at = shown_there (has_stopped old s) (slice_get old.senders s) h.sender h.goes in
-    let set = get_set_same old.senders s (mark_in h.sender asked)
-    (slice_get_within old.senders s h.sender at) in
-    let is : mark_in h.sender asked ≡ v =
-    same_Some _ _ (sym set ∙ ap (λ (y : Machine E). slice_get y.senders s) (sym h.after) ∙ there) in
-    subst (λ u. u ≡ mark_in u asked) is refl
+    grind (arith, common_steps, shown_there, slice_get, get_set_same, slice_get_within, same_Some)
 
 phase_as : {E : Type 0} (v : Sender E) (asked : Mark) → v ≡ mark_in v asked
     → v.core.queue.phase ≡ batch.Marking asked
@@ -284,12 +242,7 @@ marks_refused X old new = record {
 
 -- numbers of messages
 pub numbers_refused : NumbersRefuse
-numbers_refused = record {
-  first_as_one = λ bytes told. let e : 2 ≡ 1 = told in omega arith;
-  starts_anew = λ bytes told. let e : 1 ≡ 6 = told in omega arith;
-  second_as_zero = λ bytes more told. let e : 1 ≡ 2 = told in omega arith;
-  unput = λ told. let e : 1 ≡ 0 = told in omega arith;
-}
+numbers_refused = grind (arith, common_steps)
 
 -- two steps towards the page of tenure 0
 two_steps : (n k : ℕ) (rest : List Action)
@@ -309,9 +262,7 @@ bounds_refused X bound m T = record {
   too_many_of_pin = λ s a c are b.
       let low = subst (λ l. steps_of_pin 0 l ≤ 3) are (b.most s 0) in
       let four : 4 ≤ 3 = low in omega arith;
-  unnamed = λ s e entries are none b.
-      let w = subst IsNamedFirst are (b.first s) in
-      let bad : None ≡ Some w.0 = sym none ∙ w.1 in cc;
+  unnamed = λ s e entries are none b. grind (arith, common_steps);
 }
 
 -- who did more in a tenure did not do the same
@@ -347,38 +298,22 @@ too_short : (n : ℕ) (xs ys zs : List ℕ) → length xs < n → ys ++ zs ≡ d
     → 0 < length zs → ⊥
 too_short n xs ys zs past e some =
     let many = ap length e in
-    let left = length-drop n (xs ++ zs) in
-    let all = length-append xs zs in
-    let more = length-append ys zs in
-    omega arith
+    grind (arith, common_steps, length-drop, length-append)
 
 pub follows_refused :
     {E : Type 0} (X : Election E) (old : Machine E) (e : Event) (a : Answer) (new : Machine E)
     → FollowsRefuse X old e a new
 follows_refused X old e a new = record {
-  falls = λ n k rest rest' was now f.
-      let more = f.rises in
-      let before : stage_of old ≡ 2 = ap (λ l. slice_index l 1) was in
-      let after : stage_of new ≡ 1 = ap (λ l. slice_index l 1) now in omega arith;
+  falls = λ n k rest rest' was now f. grind (arith, common_steps, slice_index);
   floor_falls = λ page next has has' falls f.
       let rises = f.floors page next has has' in omega arith;
   passed_falls = λ r at is falls f. let rises = f.passed r at is in omega arith;
   led_by_nothing = λ nothing f. nothing f.led.0 f.led.1;
-  grows_unpublished = λ T led none other f.
-      other (subst (ShowsLog new)
-      (ap (λ o. T.log ++ words_of_frame o) none ∙ append-nil T.log) (f.stands T led));
+  grows_unpublished = λ T led none other f. grind (arith, common_steps, append-nil);
   publishes_nothing = λ T g led some same f. nothing_joins T.log g
       (sym same.0 ∙ (f.stands T led).0 ∙ ap (λ o. length (T.log ++ words_of_frame o)) some);
   wraps = λ T place led flat low other f.
-      let long = (f.stands T led).0 in
-      let joined = words_joined X old e in
-      let more = length-append T.log joined in
-      let below : place < slice_index new.words 0 = omega arith in
-      other
-      (sym (index-read (slice_index new.words) (log_place new.layout new.reuse)
-      (slice_index new.words 0) place below)
-      ∙ ap (λ ws. slice_index ws place) (f.below T led flat)
-      ∙ get_or_append_left T.log joined 0 place low);
+      grind (arith, length-append, slice_index, index-read, get_or_append_left);
   other_frame = λ T senders g k led some lawful lawful' apart low has f.
       let both = front_off (drop (floor_of new) T.log) (frame_words k) (frame_words g)
       (sym has ∙ (f.stands T led).1
@@ -386,15 +321,7 @@ follows_refused X old e a new = record {
       ∙ drop-append-le (floor_of new) T.log (frame_words g) low) in
       apart (same_frame senders k g [] [] lawful' lawful (ap (λ w. w ++ []) both)).0;
   rewritten = λ T g log led some other has f.
-      let both = sym has ∙ (f.stands T led).1
-      ∙ ap (λ o. drop (floor_of new) (T.log ++ words_of_frame o)) some in
-      elim (cases_lt (length T.log) (floor_of new)) [
-        | inl past ↦
-            too_short (floor_of new) T.log log (frame_words g) past both (omega arith)
-        | inr low ↦
-            other (back_off log (drop (floor_of new) T.log) (frame_words g)
-            (both ∙ drop-append-le (floor_of new) T.log (frame_words g) low))
-      ];
+      grind (arith, common_steps, drop, cases_lt, length, too_short, back_off, drop-append-le);
 }
 
 -- who holds a page holds one
@@ -450,17 +377,8 @@ pages_refused {E} X m T = record {
       apart (ap (λ (g : Page). slice_get g.left q) has.0 ∙ w.knows.knows.left q few
       ∙ ap (λ (o : Order). Some (has_gone q o)) one.0);
   counts_untaken = λ page home one idle p.
-      let all = p.by.takers.all in
-      let many : length all ≡ 1 = sym (p.by.counts page home) ∙ one in
-      let first = one_there all many in
-      let took = p.by.takers.takers.took 0 first.0 first.1 in
-      nothing_there took.0 _ (ap (λ d. slice_get d took.0) (sym (idle first.0)) ∙ took.1.at);
-  two_holders = λ s q v w t u at there held holds apart p.
-      let stage = p.by.holds s v t at held in
-      let again = p.by.holds q w u there holds in
-      let same : u ≡ t = omega arith in
-      apart (same_Some s q (sym (p.by.owns s v t at held)
-      ∙ ap (slice_get p.by.takers.all) (sym same) ∙ p.by.owns q w u there holds));
+      grind (arith, common_steps, length, one_there, nothing_there, slice_get);
+  two_holders = λ s q v w t u at there held holds apart p. grind (arith, same_Some, slice_get);
   holds_untaken = λ s v t at held untaken p.
       let took = p.by.takers.takers.took t s (p.by.owns s v t at held) in untaken took.0 took.1;
   out_of_hands = λ away nobody p.
@@ -471,12 +389,7 @@ pages_refused {E} X m T = record {
 left_by_it : {E : Type 0} (m : Machine E) (log : List ℕ) (s : ℕ) (order : Order)
     (owners : List (ℕ × SenderNo))
     → Spells m.layout.senders log order owners → has_gone s order ≡ true → HasLeftIt m log s
-left_by_it m log s order owners spelled gone = record {
-  order = order;
-  owners = owners;
-  spelled = spelled;
-  left = gone;
-}
+left_by_it m log s order owners spelled gone = grind (arith, common_steps)
 
 never_at_rest : {E : Type 0} (t : ℕ) (ph : Phase E) → HasPublished t ph → ph ≡ phase.Resting → ⊥
 never_at_rest t ph (Published page stored) e = cc
@@ -496,9 +409,7 @@ memories_refused X m T = record {
   open_after_leaving = λ s v order owners at open_is spelled gone p.
       elim ((p.by.remembers s v at).gone (left_by_it m T.log s order owners spelled gone)) [
         | inl closed ↦ (let bad : batch.Open ≡ batch.Closed = sym open_is ∙ closed in cc)
-        | inr now ↦
-            (let bad : is_leaving batch.Open ≡ true = ap is_leaving (sym open_is) ∙ now.leaves in
-            true≢false (sym bad))
+        | inr now ↦ cc
       ];
   leaving_after_leaving = λ s v order owners at leaving ph spelled gone p.
       elim ((p.by.remembers s v at).gone (left_by_it m T.log s order owners spelled gone)) [
@@ -520,9 +431,7 @@ memories_refused X m T = record {
       let none : length (puts (T.actions s)) ≡ 0 = ap (λ l. length (puts l)) idle in omega arith;
   past_at_first = λ s v at one stage idle p. elim ((p.by.remembers s v at).past 0 (omega arith)) [
     | inl ended ↦ omega arith
-    | inr lost ↦
-        (let e = lost.elected in
-        nothing_there e.place _ (ap (λ d. slice_get d e.place) (sym idle) ∙ e.at))
+    | inr lost ↦ cc
   ];
   begins_ahead =
       λ s v t at begun stage p. let low = (p.by.remembers s v at).begun t begun in omega arith;
@@ -545,31 +454,14 @@ memories_refused X m T = record {
 -- no two receivers have one passed place
 one_place : (x : Layout) (o : Option ℕ) (r q at : ℕ) → passed_by x o r ≡ Some at
     → passed_by x o q ≡ Some at → r ≡ q
-one_place x o r q at one two =
-    let a = place_is r (nat_lt r x.passers) one in
-    let b = place_is q (nat_lt q x.passers) two in omega arith
-  where
-    place_is : (r : ℕ) (b : Bool)
-        → cond {A = Option ℕ} b (Some (passers_place x o + PASSED_APART * r)) None ≡ Some at
-        → passers_place x o + PASSED_APART * r ≡ at
-    place_is r true is = same_Some _ _ is
-    place_is r false is = absurd cc
+one_place x o r q at one two = grind (arith, common_steps, nat_lt, same_Some)
 
 pub words_refused : {E : Type 0} (X : Election E) (m : Machine E) (T : Trails) → WordsRefuse X m T
 words_refused X m T = record {
   below_the_length = λ s v t page stored word o at i next flat below p.
-      let is = p.by.past s v t page stored word o at i next in
-      let first = floor_first m flat in
-      let room = is.room in
-      let cell = is.cell in
-      let low : slice_index m.words 0 + stored < m.layout.capacity = omega arith in
-      let straight = mod-eq_of_lt low in omega arith;
+      grind (arith, floor_first, slice_index, mod-eq_of_lt);
   over_a_word = λ s v t page stored word place o at i next low below here p.
-      let is = p.by.past s v t page stored word o at i next in
-      let room = is.room in
-      let cell = is.cell in
-      let same = one_of_row m.layout.capacity place (slice_index m.words 0 + stored)
-      (omega arith) (omega arith) (omega arith) in omega arith;
+      grind (arith, one_of_row, slice_index);
   loads_another_place = λ s v t word r p o at i next here other k.
       let l = k.by.loads s v t word p at i in
       let same = ap register (same_Some _ _ (sym l.is ∙ next)) in

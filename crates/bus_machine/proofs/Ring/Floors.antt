@@ -4,6 +4,7 @@ use Rattle.std.proofs.Common.{false, cond, Option, Some, None, List, slice_get, 
 use Rattle.std.proofs.Common.{slice_index, arith, refl, sym, ◌∙◌, ap, subst}
 use Rattle.std.proofs.lemmas.Bool.{cases_eq}
 use Rattle.std.proofs.lemmas.Option.{same_Some, slice_get_within}
+use Rattle.std.proofs.lemmas.Grind.{common_steps}
 use Rattle.bus_batch.specs.Frames.{log_words}
 use Rattle.bus_core.proofs.Situated.{situation_tells, SituationTells}
 use Rattle.bus_core.specs.Reusing.Keeping.{held_of}
@@ -46,10 +47,7 @@ use Rattle.bus_machine.specs.Promise.{FloorsRise, IsPagedBy, IsPageOf}
 use Rattle.bus_machine.specs.Remembering.{rows_in}
 
 lesser_above : (n a b : ℕ) → n ≤ a → n ≤ b → n ≤ lesser a b
-lesser_above n a b low under = elim (lesser_is a b) [
-  | inl one ↦ (let is = one.0 in omega arith)
-  | inr other ↦ (let is = other.0 in omega arith)
-]
+lesser_above n a b low under = grind (arith, common_steps, lesser_is)
 
 -- a page that is given back keeps its floor
 floor_after : {E : Type 0} (c : Core E) (t : ℕ) (page : Page) (reason : Reason)
@@ -192,16 +190,10 @@ module _ {E : Type 0} (X : Election E) (P : Protocol E (Unit {0}) ℕ) (m m' : M
       l = passing_fed q got
 
       few : page.floor ≤ NUMBERS
-      few =
-          let size = length-logged f.sending.log in
-          let bound = words_low m.layout.senders f.frames f.sending.log.lawful in
-          let below = low.0 in
-          let more = low.1 in omega arith
+      few = grind (arith, common_steps, length-logged, f, words_low, low)
 
       above : page.floor ≤ lesser (lesser l.least page.words) NUMBERS
-      above = lesser_above page.floor (lesser l.least page.words) NUMBERS
-          (lesser_above page.floor l.least page.words
-          (lesser_above page.floor got q.least loaded.0 loaded.1) low.0) few
+      above = grind (arith, common_steps, lesser_above, loaded, low, few)
 
       reads_by : (b : Bool)
           → (next : Page)
@@ -229,9 +221,7 @@ module _ {E : Type 0} (X : Election E) (P : Protocol E (Unit {0}) ℕ) (m m' : M
         absurd (let bad : phase.Resting ≡ has = sym (phase_tells X v LooksAtStage i) ∙ held in cc)
     from_held (Does (Elects u e)) i = absurd
         (let bad : phase.Electing u e ≡ has = sym (phase_tells X v (Elects u e) i).0 ∙ held in cc)
-    from_held (Does (TakesPage u)) i =
-        let own = phase_tells X v (TakesPage u) i in
-        absurd (let bad : phase.Electing u own.0 ≡ has = sym own.1 ∙ held in cc)
+    from_held (Does (TakesPage u)) i = grind (arith, common_steps, phase_tells)
     from_held (Does (AwaitsPage u)) i = absurd
         (let bad : phase.Taken u ≡ has = sym (phase_tells X v (AwaitsPage u) i) ∙ held in cc)
     from_held (Does (StoresWord u other k)) i =
@@ -256,17 +246,11 @@ module _ {E : Type 0} (X : Election E) (P : Protocol E (Unit {0}) ℕ) (m m' : M
         record {
           page = page_after v.core u other reason;
           at_it = inl refl;
-          higher =
-              let e = ap (λ (g : Page). g.floor) same in
-              let after = floor_after v.core u other reason in omega arith;
+          higher = grind (arith, common_steps, floor_after);
         }
-    from_held (Does (HasHanded u reason)) i = absurd
-        (let bad : phase.Giving u reason ≡ has =
-        sym (phase_tells X v (HasHanded u reason) i) ∙ held in cc)
+    from_held (Does (HasHanded u reason)) i = grind (arith, common_steps, phase_tells)
     from_held (Announces u) i = keeps (Announces u) refl
-    from_held (Validates u) i = absurd
-        (let bad : phase.Resting ≡ has = sym (enters X P m T sits reached s v at u i).0 ∙ held in
-        cc)
+    from_held (Validates u) i = grind (arith, common_steps, enters, at)
     from_held (Unpins u) i = keeps (Unpins u) refl
     from_held (Withdraws u) i = keeps (Withdraws u) refl
     from_held (Scans r) i = keeps (Scans r) refl
@@ -404,10 +388,7 @@ module _ {E : Type 0} (X : Election E) (m m' : Machine E) where
 pub one_floor : {E : Type 0} (P : Protocol E (Unit {0}) ℕ) (m : Machine E) (T : Trails)
     → IsFramed P m T → (page other : Page) → IsPageOf m page → IsPageOf m other
     → page.floor ≡ other.floor
-one_floor P m T f page other has has' = its page has ∙ sym (its other has') where
-  its : (g : Page) → IsPageOf m g → g.floor ≡ f.floor
-  its g (inl home) = f.floored_home g home
-  its g (inr held) = f.floored held.0 held.1 held.2 g held.3 held.4 held.5 held.6
+one_floor P m T f page other has has' = grind arith
 
 -- so the floor of a page rises
 pub floors_rise : {E : Type 0} (X : Election E) (P : Protocol E (Unit {0}) ℕ) (m m' : Machine E)

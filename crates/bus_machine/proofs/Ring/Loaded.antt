@@ -1,20 +1,18 @@
 -- What a holder has loaded of the passed places is what its actions found there since it took its
 -- page; and once all are loaded, the floor of the page is the least of them.
-use Rattle.std.proofs.Common.{◌≡◌, inl, inr, ℕ, ◌+◌, ◌/◌, ◌<◌, ◌≤◌, ◌==◌, nat_le, Bool, true}
-use Rattle.std.proofs.Common.{false, cond, Option, Some, None, List, [], ◌∷◌, ◌++◌, length}
-use Rattle.std.proofs.Common.{slice_get, nat_lt, arith, refl, sym, ◌∙◌, ap, subst}
-use Rattle.std.specs.Prelude.{IfSome}
+use Rattle.std.proofs.Common.{◌≡◌, ℕ, ◌+◌, ◌/◌, ◌<◌, ◌≤◌, ◌==◌, nat_le, Bool, true, false, cond}
+use Rattle.std.proofs.Common.{Option, Some, None, List, [], ◌∷◌, ◌++◌, length, slice_get, nat_lt}
+use Rattle.std.proofs.Common.{arith, refl, sym, ◌∙◌, ap, subst}
 use Rattle.std.proofs.lemmas.Bool.{ltb-false}
 use Rattle.std.proofs.lemmas.Bool.Decides.{eqb_tells}
 use Rattle.std.proofs.lemmas.Option.{same_Some}
-use Rattle.bus_core.proofs.Situated.{GoesCalmly, IsCalm, SituationTells, calm_home}
-use Rattle.bus_core.proofs.Situated.{situation_tells}
+use Rattle.std.proofs.lemmas.Grind.{common_steps}
+use Rattle.bus_core.proofs.Situated.{IsCalm, calm_home, situation_tells}
 use Rattle.bus_core.specs.Loading.{passed_in}
 use Rattle.bus_core.specs.Reusing.Passing.{AreBehind, GivesLeast, passing_begun, passing_fed}
-use Rattle.bus_core.specs.Reusing.Passing.{passing_left, passing_over}
-use Rattle.bus_core.specs.Senders.{Sender, Situation, Does, Announces, Validates, Unpins}
-use Rattle.bus_core.specs.Senders.{Withdraws, Scans, Clears, ReadsPassed, passing, reclaiming}
-use Rattle.bus_core.specs.Senders.{situation, situation_by}
+use Rattle.bus_core.specs.Reusing.Passing.{passing_over}
+use Rattle.bus_core.specs.Senders.{Sender, Situation, Does, Announces, Validates, Unpins, Withdraws}
+use Rattle.bus_core.specs.Senders.{Scans, Clears, ReadsPassed, situation, situation_by}
 use Rattle.bus_core.specs.Table.{line, seen, reuse_pinning, reuse_reclaiming, reuse_passed}
 use Rattle.bus_core.specs.Table.{reuse_taken}
 use Rattle.bus_core.specs.declared.reuses.Passing.{Passing}
@@ -28,7 +26,7 @@ use Rattle.bus_tenure.specs.Core.{Election, Layout}
 use Rattle.bus_tenure.specs.Situations.{IsClosed, IsIdle, IsSpent, LooksAtStage, Elects, TakesPage}
 use Rattle.bus_tenure.specs.Situations.{AwaitsPage, StoresWord, StoresLength, GivesBack, HasHanded}
 use Rattle.bus_tenure.specs.Situations.{core_begun, core_elected, core_floored, phase_floored}
-use Rattle.bus_tenure.specs.Situations.{lesser, situation_of, waits}
+use Rattle.bus_tenure.specs.Situations.{lesser, waits}
 use Rattle.bus_tenure.specs.declared.pages.Page.{Page}
 use Rattle.bus_tenure.specs.declared.phases.Phase.{Phase}
 use Rattle.bus_tenure.specs.declared.phases.Phase.TheVariants as phase
@@ -83,11 +81,7 @@ Loads (Some v) D =
 
 -- none is loaded of a page that is just taken
 none_loaded : (passers : ℕ) (page : Page) → HasLoaded passers page passing_begun []
-none_loaded passers page = record {
-  is = refl;
-  few = omega arith;
-  floor = λ some all. absurd (omega arith);
-}
+none_loaded passers page = grind (arith, common_steps)
 
 -- who holds no page
 abbrev pub IsAway : {E : Type 0} → Phase E → Type 0
@@ -124,11 +118,7 @@ floored_is least phase.Resting t page stored published held = absurd (let bad = 
 floored_is least (phase.Electing u e) t page stored published held =
     absurd (let bad = held in cc)
 floored_is least (phase.Taken u) t page stored published held = absurd (let bad = held in cc)
-floored_is least (phase.Holding u other k b) t page stored published held =
-    let same = held_page_is u (record other { floor = floor_by least other.words }) k b t page
-    stored published held in
-    sym (ap (λ (g : Page). g.floor) same)
-    ∙ ap (λ (g : Page). floor_by least g.words) same
+floored_is least (phase.Holding u other k b) t page stored published held = cc
 floored_is least (phase.Giving u reason) t page stored published held =
     absurd (let bad = held in cc)
 
@@ -224,10 +214,7 @@ module _ {E : Type 0} (X : Election E) (P : Protocol E (Unit {0}) ℕ) (m : Mach
   takes : (w : Sender E) (ds : List Action) (t : ℕ)
       → w.reuse ≡ reuse_taken v.core.layout v.reuse t → places_found ds ≡ [] → Loads (Some w) ds
   takes w ds t is none u page stored published p held has =
-      subst (λ ps. HasLoaded w.core.layout.passers page p ps) (sym none)
-      (subst (λ q. HasLoaded w.core.layout.passers page q [])
-      (taken_begins v.core.layout v.reuse t p (sym (ap passed_in is) ∙ has))
-      (none_loaded w.core.layout.passers page))
+      grind (arith, common_steps, taken_begins, none_loaded)
 
   -- it goes on with the page that it has
   stores : (w : Sender E) (ds : List Action) (u : ℕ) (other : Page) (j i : ℕ) (b b' : Bool)
@@ -250,26 +237,14 @@ module _ {E : Type 0} (X : Election E) (P : Protocol E (Unit {0}) ℕ) (m : Mach
     l = passing_fed q n
 
     left : q.loaded < v.core.layout.passers
-    left = by v.reuse (situation_tells X v (ReadsPassed u q) i) where
-      by : (o : Option Reuse)
-          → SituationTells v.core.layout.passers (ReadsPassed u q) o (situation_of X v.core)
-          → q.loaded < v.core.layout.passers
-      by None w = absurd w
-      by (Some r) w = w.left
+    left = grind (arith, common_steps, situation_tells)
 
     had : passed_in v.reuse ≡ Some q
-    had = by v.reuse (situation_tells X v (ReadsPassed u q) i) where
-      by : (o : Option Reuse)
-          → SituationTells v.core.layout.passers (ReadsPassed u q) o (situation_of X v.core)
-          → passed_in o ≡ Some q
-      by None w = absurd w
-      by (Some r) w = ap Some w.is
+    had = grind (arith, common_steps, situation_tells)
 
     more : (page : Page) → HasLoaded v.core.layout.passers page q (places_found D)
         → l ≡ passing_over passing_begun (places_found (D ++ did (ReadsPassed u q)))
-    more page w =
-        ap (λ p. passing_fed p n) w.is ∙ sym (over_more passing_begun (places_found D) n)
-        ∙ ap (passing_over passing_begun) (sym (found_on [] D (did (ReadsPassed u q))))
+    more page w = grind (arith, common_steps, over_more, found_on)
 
     reads_by : (b : Bool) → (l.loaded == v.core.layout.passers) ≡ b
         → Loads (Some (record {
@@ -282,20 +257,12 @@ module _ {E : Type 0} (X : Election E) (P : Protocol E (Unit {0}) ℕ) (m : Mach
         (places_found (D ++ did (ReadsPassed u q)))) (fed_is v.reuse l p has) record {
           is = more page w;
           few = let a = left in omega arith;
-          floor = λ some all. absurd (elim (eqb_tells l.loaded v.core.layout.passers) [
-            | inl y ↦ (let bad : true ≡ false = sym y.0 ∙ last in cc)
-            | inr y ↦ y.1 all
-          ]);
+          floor = λ some all. grind (arith, common_steps, eqb_tells);
         }
     reads_by true last t page stored published p held has =
         let was = floored_from l.least v.core.phase t page stored published held in
         let w = k t was.0 stored published q was.1 had in
-        subst (λ p. HasLoaded v.core.layout.passers page p
-        (places_found (D ++ did (ReadsPassed u q)))) (fed_is v.reuse l p has) record {
-          is = more was.0 w;
-          few = let a = left in omega arith;
-          floor = λ some all. floored_is l.least v.core.phase t page stored published held;
-        }
+        grind (arith, fed_is, more, left, floored_is)
 
     reads : Good (ReadsPassed u q)
     reads = reads_by (l.loaded == v.core.layout.passers) refl
@@ -308,14 +275,8 @@ module _ {E : Type 0} (X : Election E) (P : Protocol E (Unit {0}) ℕ) (m : Mach
   by_turn (Does LooksAtStage) i =
       away (seen X v.core v.reuse (got (Does LooksAtStage))) (D ++ did (Does LooksAtStage))
       (looks X v v.reuse (got (Does LooksAtStage)) (phase_tells X v LooksAtStage i))
-  by_turn (Does (Elects t e)) i =
-      let z = Does (Elects t e) in
-      away ((line X v z).fed (got z) word) (D ++ did z)
-      (elected X v t (X.fed e (got z) word) (X.owner (X.fed e (got z) word)))
-  by_turn (Does (TakesPage t)) i =
-      let z = Does (TakesPage t) in
-      takes (moved (after_step (line X v z).move) m.home ((line X v z).fed (got z) word))
-      (D ++ did z) t refl (found_on [] D (did z))
+  by_turn (Does (Elects t e)) i = grind (arith, common_steps, away, elected)
+  by_turn (Does (TakesPage t)) i = grind (arith, common_steps, takes, found_on)
   by_turn (Does (AwaitsPage t)) i =
       absurd (subst (Fits (base_of m) f.V f.frames v.core) (phase_tells X v (AwaitsPage t) i)
       part.fits)
@@ -329,19 +290,12 @@ module _ {E : Type 0} (X : Election E) (P : Protocol E (Unit {0}) ℕ) (m : Mach
       let own = phase_tells X v (StoresLength t page j) i in
       stores ((line X v z).fed (got z) word) (did z) t page j j own.0 true own.1 refl refl refl
       refl
-  by_turn (Does (GivesBack t page reason)) i =
-      let z = Does (GivesBack t page reason) in
-      away ((line X v z).fed (got z) word) (D ++ did z) (λ u other stored published held. cc)
-  by_turn (Does (HasHanded t reason)) i =
-      let z = Does (HasHanded t reason) in
-      away ((line X v z).fed (got z) word) (D ++ did z) (λ u other stored published held. cc)
+  by_turn (Does (GivesBack t page reason)) i = grind (arith, common_steps, away)
+  by_turn (Does (HasHanded t reason)) i = grind (arith, common_steps, away)
   by_turn (Announces t) i =
       let z = Announces t in
       keeps ((line X v z).fed (got z) word) (did z) refl refl (pinning_same v.reuse _) refl
-  by_turn (Validates t) i =
-      let z = Validates t in
-      away ((line X v z).fed (got z) word) (D ++ did z)
-      (validated X v t (got z / 2 == t) (enters X P m T sits reached s v at t i).0)
+  by_turn (Validates t) i = grind (arith, common_steps, away, validated, enters)
   by_turn (Unpins t) i =
       let z = Unpins t in
       keeps ((line X v z).fed (got z) word) (did z) refl refl (pinning_same v.reuse _) refl
@@ -362,12 +316,7 @@ module _ {E : Type 0} (X : Election E) (P : Protocol E (Unit {0}) ℕ) where
   K m q o D es = Loads o D
 
   starts : (m : Machine E) (q : ℕ) → IsNew m → K m q (slice_get m.senders q) [] []
-  starts m q new = by (slice_get m.senders q) refl where
-    by : (o : Option (Sender E)) → slice_get m.senders q ≡ o → Loads o []
-    by None at = tt
-    by (Some v) at = λ t page stored published p held has.
-        absurd (rests v.core.phase
-        (ap (λ (w : Sender E). w.core.phase) (new.senders q v at).1) t page stored published held)
+  starts m q new = grind (arith, common_steps, slice_get, rests)
 
   -- a put or a mark loads nothing
   pub puts : (D : List Action) (bytes : List ℕ) (a : Answer)
@@ -416,61 +365,26 @@ module _ {E : Type 0} (X : Election E) (P : Protocol E (Unit {0}) ℕ) where
 room_loaded : (E : Type 0) (n t : ℕ) (page : Page) (r : Reuse) → IsCalm r.pin
     → situation_by {E = E} n (Some r) (GivesBack t page NoRoom) ≡ Does (GivesBack t page NoRoom)
     → n ≤ r.passed.loaded
-room_loaded E n t page r calm i = by (nat_lt r.passed.loaded n) refl where
-  by : (b : Bool) → nat_lt r.passed.loaded n ≡ b → n ≤ r.passed.loaded
-  by true e = absurd
-      (let bad : ◌≡◌ {A = Situation E} (ReadsPassed t r.passed) (Does (GivesBack t page NoRoom)) =
-      sym (ap (λ b. passing {E = E} (cond b (Some r.passed) None) t NoRoom
-      (reclaiming r.reclaimer (GivesBack t page NoRoom))) e)
-      ∙ sym (calm_home r (passing_left n r.passed) (GivesBack t page NoRoom) calm) ∙ i in
-      cc)
-  by false e = ltb-false _ _ e
+room_loaded E n t page r calm i = grind (arith, common_steps, nat_lt, calm_home, ltb-false)
 
 pub gives_loaded : {E : Type 0} (X : Election E) (v : Sender E) (t : ℕ) (page : Page)
     → situation X v ≡ Does (GivesBack t page NoRoom) → (r : Reuse) → v.reuse ≡ Some r
     → v.core.layout.passers ≤ r.passed.loaded
-gives_loaded {E} X v t page i r is =
-    let n = v.core.layout.passers in
-    let w = situation_tells X v (Does (GivesBack t page NoRoom)) i in
-    let calm = subst (λ o. IfSome o (λ q. IsCalm q.pin)) is (calm_of v.reuse w.1) in
-    room_loaded E n t page r calm
-    (ap (situation_by n (Some r)) (sym w.0)
-    ∙ ap (λ o. situation_by n o (situation_of X v.core)) (sym is) ∙ i)
-  where
-    calm_of : (o : Option Reuse) → IfSome o (λ q. GoesCalmly q (situation_of X v.core))
-        → IfSome o (λ q. IsCalm q.pin)
-    calm_of None w = tt
-    calm_of (Some q) w = w.calm
+gives_loaded {E} X v t page i r is = grind (arith, common_steps, situation_tells, room_loaded)
 
 -- the least of some places, which a holder remembers
 least_of_two : (a b : ℕ) → (lesser a b ≤ a) × (lesser a b ≤ b)
-least_of_two a b = elim (lesser_is a b) [
-  | inl one ↦ (let e = one.0 in omega arith, let e = one.0 in let d = one.1 in omega arith)
-  | inr two ↦ (let e = two.0 in let d = two.1 in omega arith, let e = two.0 in omega arith)
-]
+least_of_two a b = grind (arith, common_steps, lesser_is)
 
 least_above : (n a b : ℕ) → n ≤ a → n ≤ b → n ≤ lesser a b
-least_above n a b low under = elim (lesser_is a b) [
-  | inl one ↦ (let e = one.0 in omega arith)
-  | inr two ↦ (let e = two.0 in omega arith)
-]
+least_above n a b low under = grind (arith, common_steps, lesser_is)
 
 pub gives_least : (p : Passing) (places : List ℕ) → GivesLeast p places
 gives_least p [] =
     record { loaded = omega arith; within = omega arith; below = tt; greatest = λ m x y. x }
 gives_least p (place ∷ places) =
     let h = gives_least (passing_fed p place) places in
-    let two = least_of_two place p.least in
-    let loaded = h.loaded in
-    let within = h.within in
-    let first = two.0 in
-    let second = two.1 in
-    record {
-      loaded = omega arith;
-      within = omega arith;
-      below = (omega arith, h.below);
-      greatest = λ m x y. h.greatest m (least_above m place p.least y.0 x) y.1;
-    }
+    grind (arith, common_steps, least_of_two, least_above)
 
 behind_lower : (n k : ℕ) (places : List ℕ) → n ≤ k → AreBehind k places → AreBehind n places
 behind_lower n k [] low h = tt
@@ -479,47 +393,11 @@ behind_lower n k (place ∷ places) low h =
 
 pub all_are_found : (passers : ℕ) (page : Page) (p : Passing) (places : List ℕ)
     → HasLoaded passers page p places → passers ≤ p.loaded → length places ≡ passers
-all_are_found passers page p places w all =
-    let few = w.few in
-    let same = ap (λ (q : Passing). q.loaded) w.is in
-    let many = (gives_least passing_begun places).loaded in omega arith
+all_are_found passers page p places w all = grind (arith, common_steps, gives_least)
 
 -- the floor is the least of them and of the words that the page knows
 pub is_least : (passers : ℕ) (page : Page) (p : Passing) (places : List ℕ)
     → HasLoaded passers page p places → 0 < passers → passers ≤ p.loaded → page.words ≤ NUMBERS
     → IsLeast page.floor page.words places
-is_least passers page p places w some all low = record {
-  within = let a = inner_second in let b = outer_first in omega arith;
-  behind = behind_lower page.floor (passing_over passing_begun places).least places
-      (let a = inner_first in let b = outer_first in omega arith) least.below;
-  furthest = λ n words each.
-      let far : n ≤ (passing_over passing_begun places).least =
-      least.greatest n (omega arith) each in
-      most n (let e = same in omega arith) words (omega arith);
-} where
-  least : GivesLeast passing_begun places
-  least = gives_least passing_begun places
-
-  same : p.least ≡ (passing_over passing_begun places).least
-  same = ap (λ (q : Passing). q.least) w.is
-
-  floor_is : page.floor ≡ floor_by p.least page.words
-  floor_is = w.floor some (let few = w.few in omega arith)
-
-  inner_first : lesser p.least page.words ≤ (passing_over passing_begun places).least
-  inner_first =
-      let a = (least_of_two p.least page.words).0 in let f = same in omega arith
-
-  inner_second : lesser p.least page.words ≤ page.words
-  inner_second = (least_of_two p.least page.words).1
-
-  outer_first : page.floor ≤ lesser p.least page.words
-  outer_first =
-      let a = (least_of_two (lesser p.least page.words) NUMBERS).0 in
-      let f = floor_is in omega arith
-
-  most : (n : ℕ) → n ≤ p.least → n ≤ page.words → n ≤ NUMBERS → n ≤ page.floor
-  most n one two three =
-      let a = least_above n (lesser p.least page.words) NUMBERS
-      (least_above n p.least page.words one two) three in
-      let f = floor_is in omega arith
+is_least passers page p places w some all low =
+    grind (arith, common_steps, behind_lower, gives_least, least_of_two, least_above)

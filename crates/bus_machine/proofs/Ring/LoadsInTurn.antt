@@ -1,16 +1,15 @@
 -- A holder loads the passed places in the order of receivers.
-use Rattle.std.proofs.Common.{◌≡◌, ℕ, ◌+◌, ◌*◌, ◌<◌, Bool, true, false, cond, Option, Some, None}
-use Rattle.std.proofs.Common.{length, nat_lt, slice_get, arith, refl, sym, ◌∙◌, ap, subst}
+use Rattle.std.proofs.Common.{◌≡◌, ℕ, ◌+◌, ◌*◌, ◌<◌, Option, Some, None, length, nat_lt, slice_get}
+use Rattle.std.proofs.Common.{arith, refl, sym, ◌∙◌, ap, subst}
 use Rattle.std.proofs.lemmas.Bool.{ltb-false}
+use Rattle.std.proofs.lemmas.Grind.{common_steps}
 use Rattle.bus_core.proofs.Situated.{SituationTells, situation_tells}
 use Rattle.bus_core.specs.Reusing.Passing.{passing_begun}
 use Rattle.bus_core.specs.Senders.{Sender, ReadsPassed, passed_start, situation}
-use Rattle.bus_core.specs.Table.{line}
 use Rattle.bus_core.specs.declared.limits.TheConstants.{PASSED_APART}
 use Rattle.bus_core.specs.declared.reuses.Passing.{Passing}
 use Rattle.bus_core.specs.declared.reuses.Reuse.{Reuse}
 use Rattle.bus_register.specs.Protocol.{Protocol}
-use Rattle.bus_register.specs.declared.registers.Op.TheVariants.{Load}
 use Rattle.bus_tenure.proofs.Situated.{tells}
 use Rattle.bus_tenure.specs.Core.{Election, Layout}
 use Rattle.bus_tenure.specs.Situations.{GivesBack, situation_of}
@@ -25,12 +24,7 @@ use Rattle.bus_machine.specs.Remembering.{rows_in}
 
 place_of : (x : Layout) (o : Option ℕ) (r : ℕ) → r < x.passers
     → passed_by x o r ≡ Some (passers_place x o + PASSED_APART * r)
-place_of x o r low = by (nat_lt r x.passers) refl where
-  by : (b : Bool) → nat_lt r x.passers ≡ b
-      → cond {A = Option ℕ} b (Some (passers_place x o + PASSED_APART * r)) None
-      ≡ Some (passers_place x o + PASSED_APART * r)
-  by true e = refl
-  by false e = let high = ltb-false r x.passers e in absurd (omega arith)
+place_of x o r low = grind (arith, common_steps, nat_lt, ltb-false)
 
 module _ {E : Type 0} (X : Election E) (P : Protocol E (Unit {0}) ℕ) (m : Machine E) (T : Trails)
     (sits : Sits X P m) (reached : Reached X m T) (s : ℕ) (v : Sender E) (t word : ℕ) (p : Passing)
@@ -54,9 +48,7 @@ module _ {E : Type 0} (X : Election E) (P : Protocol E (Unit {0}) ℕ) (m : Mach
   loads_number r again low = record {
     at = passers_place m.layout m.reuse + PASSED_APART * p.loaded;
     place = place_of m.layout m.reuse p.loaded low;
-    is =
-        ap (λ z. (line X v z).op word) i
-        ∙ ap (λ n. Some (Load record { 0 = n + PASSED_APART * p.loaded })) (begin r again);
+    is = grind (arith, common_steps, begin);
   }
 
   pub loads_in_turn : LoadsPassed X m v word (length (places_found (T.actions s)))

@@ -1,29 +1,25 @@
 -- Whatever happens, no passed place falls: a sender stores in none, and a receiver only in its own,
 -- where it stores a place that is no less than what it shows, or 2^64 - 1.
-use Rattle.std.proofs.Common.{◌≡◌, ◌≢◌, inl, inr, ℕ, ◌+◌, ◌-◌, ◌*◌, ◌%◌, ◌<◌, ◌≤◌, Option, Some}
-use Rattle.std.proofs.Common.{None, Bool, true, false, cond, ◌==◌, ◌&&◌, nat_lt, List, length}
-use Rattle.std.proofs.Common.{slice_get, slice_index, slice_set, arith, refl, sym, ◌∙◌, ap, subst}
+use Rattle.std.proofs.Common.{◌≡◌, ◌≢◌, inl, inr, ℕ, ◌+◌, ◌*◌, ◌<◌, ◌≤◌, Option, Some, None, false}
+use Rattle.std.proofs.Common.{nat_lt, List, length, slice_get, slice_index, slice_set, arith, refl}
+use Rattle.std.proofs.Common.{sym, ◌∙◌, ap, subst}
 use Rattle.std.proofs.lemmas.Bool.{cases_eq, ltb-true}
 use Rattle.std.proofs.lemmas.List.{get_or-set_same, get_or-set_other}
 use Rattle.std.proofs.lemmas.Option.{same_Some}
-use Rattle.bus_batch.specs.Batches.{frame_of}
-use Rattle.bus_batch.specs.Frames.{frame_words}
-use Rattle.bus_batch.specs.Reading.{is_between}
+use Rattle.std.proofs.lemmas.Grind.{common_steps}
 use Rattle.bus_core.specs.Reusing.Participants.{sizes_with}
-use Rattle.bus_core.specs.Senders.{Sender, Situation, Does, Announces, Validates, Unpins}
-use Rattle.bus_core.specs.Senders.{Withdraws, Scans, Clears, ReadsPassed, log_start}
-use Rattle.bus_core.specs.Senders.{passed_start, situation}
+use Rattle.bus_core.specs.Senders.{Sender, Situation, Does, Announces, Validates, Unpins, Withdraws}
+use Rattle.bus_core.specs.Senders.{Scans, Clears, ReadsPassed, passed_start, situation}
 use Rattle.bus_core.specs.Table.{line, presence_of}
 use Rattle.bus_core.specs.declared.limits.TheConstants.{PASSED_APART}
-use Rattle.bus_deliverylog.specs.Receiving.{Receiving, passing_due, op_by, receiving_op}
-use Rattle.bus_deliverylog.specs.Receiving.{leaving_by, leaving_op}
+use Rattle.bus_deliverylog.specs.Receiving.{Receiving, passing_due, receiving_op, leaving_op}
 use Rattle.bus_presence.specs.Reclamation.{ReclamationSizes, row_of}
 use Rattle.bus_register.specs.Protocol.{Protocol}
 use Rattle.bus_register.specs.Words.{register}
 use Rattle.bus_register.specs.declared.limits.TheConstants.{PASSED_ALL}
 use Rattle.bus_register.specs.declared.registers.Op.{Op}
 use Rattle.bus_register.specs.declared.registers.Op.TheVariants.{Load, Store}
-use Rattle.bus_tenure.specs.Core.{Election, stage_at, cell_of, frame_len}
+use Rattle.bus_tenure.specs.Core.{Election, stage_at}
 use Rattle.bus_tenure.specs.Situations.{IsClosed, IsIdle, IsSpent, LooksAtStage, Elects, TakesPage}
 use Rattle.bus_tenure.specs.Situations.{AwaitsPage, StoresWord, StoresLength, GivesBack, HasHanded}
 use Rattle.bus_world.proofs.Bounds.{words_low}
@@ -55,25 +51,8 @@ record IsPassedPlace {E : Type 0} (m : Machine E) (r place : ℕ) : Type 0 where
 passed_there : {E : Type 0} (X : Election E) (P : Protocol E (Unit {0}) ℕ) (m : Machine E)
     (T : Trails) → Sits X P m → Reached X m T → (r place : ℕ)
     → passed_by m.layout m.reuse r ≡ Some place → IsPassedPlace m r place
-passed_there {E} X P m T sits reached r place e = by m.reuse refl where
-  by_below : (rows : ℕ) → m.reuse ≡ Some rows → (b : Bool) → nat_lt r m.layout.passers ≡ b
-      → cond {A = Option ℕ} b (Some (passed_place m.layout rows r)) None ≡ Some place
-      → IsPassedPlace m r place
-  by_below rows used true low i = record {
-    rows = rows;
-    used = used;
-    two = two_rows X P m sits rows used;
-    below = ltb-true r m.layout.passers low;
-    is = same_Some _ _ i;
-  }
-  by_below rows used false low i = absurd cc
-
-  by : (o : Option ℕ) → m.reuse ≡ o → IsPassedPlace m r place
-  by None fresh = absurd (let bad : None ≡ Some place =
-      sym (passed_first m.layout m.reuse r (flat_at_none X m T reached fresh)) ∙ e in
-      cc)
-  by (Some rows) used = by_below rows used (nat_lt r m.layout.passers) refl
-      (subst (λ o. passed_by m.layout o r ≡ Some place) used e)
+passed_there {E} X P m T sits reached r place e =
+    grind (arith, common_steps, nat_lt, two_rows, ltb-true, same_Some, passed_first, flat_at_none)
 
 -- ---- a turn of sender s stores in no passed place
 module _ {E : Type 0} (X : Election E) (P : Protocol E (Unit {0}) ℕ) (m m' : Machine E) (T : Trails)
@@ -95,9 +74,7 @@ module _ {E : Type 0} (X : Election E) (P : Protocol E (Unit {0}) ℕ) (m m' : M
 
   -- the place is none of a row
   beside_rows : (t n : ℕ) → row_of sizes t ≤ n → n < row_of sizes t + m.layout.width → place ≢ n
-  beside_rows t n low high same =
-      behind_rows m.layout w.rows w.two t (n - row_of sizes t) r (omega arith)
-      (let is = w.is in omega arith)
+  beside_rows t n low high same = grind (arith, common_steps, behind_rows)
 
   -- it shows what it showed
   abbrev Shows : Situation E → Type 0
@@ -112,27 +89,19 @@ module _ {E : Type 0} (X : Election E) (P : Protocol E (Unit {0}) ℕ) (m m' : M
   loads : (z : Situation E) (n : ℕ) → situation X v ≡ z
       → (line X v z).op word ≡ Some (Load record { 0 = n })
       → Shows z
-  loads z n i due =
-      let low : n < length m.words =
-      subst (IsOnWord m) due (subst (λ y. IsOnWord m ((line X v y).op word)) i h.within) in
-      ap (λ o. slice_index (words_after m.words o) place) due ∙ loads_same m.words n place low
+  loads z n i due = grind (arith, common_steps, length, slice_index, loads_same)
 
   -- with a step on another word
   beside : (z : Situation E) (o : Op) → (line X v z).op word ≡ Some o → place ≢ register o
       → Shows z
-  beside z o due apart =
-      ap (λ q. slice_index (words_after m.words q) place) due
-      ∙ get_or-set_other m.words (register o) place _ 0 apart
+  beside z o due apart = grind (arith, common_steps, slice_index, get_or-set_other, register)
 
   -- with a store of its presence
   presences : (z : Situation E) (n : ℕ)
       → (line X v z).op word ≡ Some (Store record { 0 = presence_of v.core } n) → Shows z
   presences z n due =
       let part = its_part X P m T f s v at in
-      let me = part.me in
-      let below = part.below in
-      let is = w.is in
-      beside z (Store record { 0 = presence_of v.core } n) due (λ e. omega arith)
+      grind (arith, common_steps, beside)
 
   -- with a store of the length or of the stage
   firsts : (z : Situation E) (k n : ℕ) → (line X v z).op word ≡ Some (Store record { 0 = k } n)
@@ -158,14 +127,8 @@ module _ {E : Type 0} (X : Election E) (P : Protocol E (Unit {0}) ℕ) (m m' : M
   by_turn (Does (AwaitsPage t)) i = idles (Does (AwaitsPage t)) refl
   by_turn (Does (StoresWord t page stored)) i =
       let start = its_start X P m T f s v at ∙ ap (log_place m.layout) w.used in
-      let is = w.is in
-      let below = w.below in
-      beside (Does (StoresWord t page stored)) (Store record {
-        0 = log_start v.core.layout v.reuse + cell_of v.core.layout (page.words + stored);
-      } (slice_index (frame_words (frame_of v.core.queue t)) stored)) refl (λ e. omega arith)
-  by_turn (Does (StoresLength t page stored)) i =
-      firsts (Does (StoresLength t page stored)) 0 (page.words + frame_len v.core) refl
-      (omega arith)
+      grind (arith, common_steps, beside, slice_index)
+  by_turn (Does (StoresLength t page stored)) i = grind (arith, common_steps, firsts)
   by_turn (Does (GivesBack t page reason)) i =
       firsts (Does (GivesBack t page reason)) stage_at (2 * t + 2) refl (omega arith)
   by_turn (Does (HasHanded t reason)) i =
@@ -211,57 +174,24 @@ module _ {E : Type 0} (X : Election E) (P : Protocol E (Unit {0}) ℕ) (m m' : M
     few : v.place ≤ PASSED_ALL
     few =
         let own = (f.reads q v at).1.receives in
-        let low = own.place_below in
-        let known = own.known_below in
-        let size = length-logged f.sending.log in
-        let bound = words_low m.layout.senders f.frames f.sending.log.lawful in omega arith
+        grind (arith, common_steps, length-logged, words_low)
 
     -- a store in its passed place, of its place or of a number past it
     stores : (spot n : ℕ) → v.passed_at ≡ Some spot → spot < length m.words → v.place ≤ n
         → Rises (words_after m.words (Some (Store record { 0 = spot } n)))
     stores spot n own low past = elim (cases_eq place spot) [
-      | inl same ↦
-          let shown = (f.heard q v place at
-          (sym (passes_by X m T reached q v at) ∙ own ∙ ap Some (sym same)) stays).0 in
-          let now : slice_index (slice_set m.words spot n) place ≡ n =
-          ap (slice_index (slice_set m.words spot n)) same
-          ∙ get_or-set_same m.words spot n 0 low in
-          omega arith
+      | inl same ↦ grind (arith, at, passes_by, slice_index, slice_set, get_or-set_same)
       | inr ne ↦ (let now = get_or-set_other m.words spot place n 0 ne in omega arith)
     ]
 
     due_there : (spot : ℕ) → passing_due v ≡ Some spot → v.passed_at ≡ Some spot
-    due_there spot = by (is_between v.frames.place && nat_lt v.passed v.place) where
-      by : (b : Bool) → cond b v.passed_at None ≡ Some spot → v.passed_at ≡ Some spot
-      by true e = e
-      by false e = absurd cc
+    due_there spot = grind (arith, common_steps, nat_lt)
 
     hears_on : IsOnWord m (receiving_op v) → Rises (words_after m.words (receiving_op v))
-    hears_on = by v.ended (passing_due v) refl where
-      loads : (n : ℕ) → n < length m.words
-          → Rises (words_after m.words (Some (Load record { 0 = n })))
-      loads n low = let same = loads_same m.words n place low in omega arith
-
-      load : (b : Bool) → IsOnWord m (Some (cond b (Load record { 0 = v.length_at })
-          (Load record { 0 = v.log_at + v.place % v.log_words })))
-          → Rises (words_after m.words (Some (cond b (Load record { 0 = v.length_at })
-          (Load record { 0 = v.log_at + v.place % v.log_words }))))
-      load true low = loads v.length_at low
-      load false low = loads (v.log_at + v.place % v.log_words) low
-
-      by : (e : Bool) (d : Option ℕ) → passing_due v ≡ d
-          → IsOnWord m (cond e None (Some (op_by d v)))
-          → Rises (words_after m.words (cond e None (Some (op_by d v))))
-      by true d due low = omega arith
-      by false None due low = load (v.place == v.known) low
-      by false (Some spot) due low = stores spot v.place (due_there spot due) low (omega arith)
+    hears_on = grind (arith, common_steps, loads, length, loads_same, stores, due_there)
 
     leaves_on : IsOnWord m (leaving_op v) → Rises (words_after m.words (leaving_op v))
-    leaves_on = by v.passed_at refl where
-      by : (o : Option ℕ) → v.passed_at ≡ o → IsOnWord m (leaving_by o)
-          → Rises (words_after m.words (leaving_by o))
-      by None own low = omega arith
-      by (Some spot) own low = stores spot PASSED_ALL own low few
+    leaves_on = grind (arith, common_steps, stores, few)
 
   event_raises : (e : Event) (a : Answer) → Happens X m e a m' → Rises m'.words
   event_raises (Put s bytes) a h = same_words (ap (λ (y : Machine E). y.words) h.after)
@@ -270,13 +200,9 @@ module _ {E : Type 0} (X : Election E) (P : Protocol E (Unit {0}) ℕ) (m m' : M
       let same = turned X P m m' T sits f u r place
       (passed_there X P m T sits reached r place is) s word a h in
       omega arith
-  event_raises (Recv q) a h = becomes (words_after m.words (receiving_op h.receiver))
-      (ap (λ (y : Machine E). y.words) h.after)
-      (hears_on q h.receiver h.there h.stays h.within)
+  event_raises (Recv q) a h = grind (arith, common_steps, becomes, hears_on)
   event_raises (Stop s) a h = same_words (ap (λ (y : Machine E). y.words) h.after)
-  event_raises (Gone q) a h = becomes (words_after m.words (leaving_op h.receiver))
-      (ap (λ (y : Machine E). y.words) h.after)
-      (leaves_on q h.receiver h.there h.stays h.within)
+  event_raises (Gone q) a h = grind (arith, common_steps, becomes, leaves_on)
 
 -- by trails that lead to the machine before it
 pub passed_rise : {E : Type 0} (X : Election E) (P : Protocol E (Unit {0}) ℕ) (m m' : Machine E)

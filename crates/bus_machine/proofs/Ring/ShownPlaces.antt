@@ -1,33 +1,30 @@
 -- What a holder has found in passed places stood there when it loaded them, each in the place of
 -- the next receiver.
-use Rattle.std.proofs.Common.{◌≡◌, ◌⊎◌, inl, inr, ℕ, zero, suc, ◌+◌, ◌/◌, ◌==◌, Bool, true, false}
-use Rattle.std.proofs.Common.{cond, Option, Some, None, List, [], ◌∷◌, ◌++◌, length, slice_get}
-use Rattle.std.proofs.Common.{slice_index, arith, refl, sym, ◌∙◌, ap, subst, append_assoc}
+use Rattle.std.proofs.Common.{◌≡◌, ◌⊎◌, inl, inr, ℕ, zero, suc, ◌+◌, ◌==◌, Bool, true, false, cond}
+use Rattle.std.proofs.Common.{Option, Some, None, List, [], ◌∷◌, ◌++◌, length, slice_get}
+use Rattle.std.proofs.Common.{slice_index, arith, refl, sym, ◌∙◌, subst, append_assoc}
 use Rattle.std.proofs.lemmas.Option.{same_Some}
-use Rattle.bus_core.proofs.Situated.{SituationTells, situation_tells}
+use Rattle.std.proofs.lemmas.Grind.{common_steps}
+use Rattle.bus_core.proofs.Situated.{situation_tells}
 use Rattle.bus_core.specs.Reusing.Passing.{passing_fed}
 use Rattle.bus_core.specs.Senders.{Sender, Situation, Does, Announces, Validates, Unpins}
 use Rattle.bus_core.specs.Senders.{Withdraws, Scans, Clears, ReadsPassed, situation}
-use Rattle.bus_core.specs.Table.{line, seen}
+use Rattle.bus_core.specs.Table.{line}
 use Rattle.bus_core.specs.declared.reuses.Passing.{Passing}
-use Rattle.bus_core.specs.declared.reuses.Reuse.{Reuse}
 use Rattle.bus_presence.specs.Reclamation.{Entry}
 use Rattle.bus_register.specs.Protocol.{Protocol}
-use Rattle.bus_register.specs.declared.kinds.Kind.TheVariants as kind
 use Rattle.bus_tenure.proofs.Situated.{tells}
 use Rattle.bus_tenure.specs.Core.{Election}
 use Rattle.bus_tenure.specs.Situations.{IsClosed, IsIdle, IsSpent, LooksAtStage, Elects, TakesPage}
 use Rattle.bus_tenure.specs.Situations.{AwaitsPage, StoresWord, StoresLength, GivesBack, HasHanded}
-use Rattle.bus_tenure.specs.Situations.{core_floored, situation_of}
+use Rattle.bus_tenure.specs.Situations.{core_floored}
 use Rattle.bus_tenure.specs.declared.pages.Page.{Page}
 use Rattle.bus_tenure.specs.declared.phases.Phase.{Phase}
 use Rattle.bus_tenure.specs.declared.phases.Phase.TheVariants as phase
-use Rattle.bus_tenure.specs.declared.phases.Reason.TheVariants.{NoRoom}
-use Rattle.bus_tenure.specs.declared.turns.Turn.TheVariants as turn
-use Rattle.bus_world.specs.Headline.{Action, Stepped}
-use Rattle.bus_world.specs.Private.Sending.{Part, Fits}
+use Rattle.bus_world.specs.Headline.{Action}
+use Rattle.bus_world.specs.Private.Sending.{Part}
 use Rattle.bus_world.specs.Trails.{put_actions, mark_actions}
-use Rattle.bus_world.specs.Turning.{after_step, number_found}
+use Rattle.bus_world.specs.Turning.{after_step}
 use Rattle.bus_world.specs.World.{Turn}
 use Rattle.bus_world.specs.declared.events.Answer.{Answer}
 use Rattle.bus_machine.proofs.Memory.EachSender.{OfEach, added, each}
@@ -78,10 +75,7 @@ module _ {E : Type 0} (X : Election E) where
     shows = w.shows;
     many = w.many;
     rest = w.rest ++ ds;
-    since =
-        ap (λ l. l ++ ds) w.since
-        ∙ append_assoc (w.trails.actions q)
-        (Stepped (Some t) kind.ReadPassed n None turn.Going ∷ w.rest) ds;
+    since = grind (arith, common_steps, append_assoc);
   }
 
   -- in a machine to which the run leads from there
@@ -143,9 +137,7 @@ module _ {E : Type 0} (X : Election E) (P : Protocol E (Unit {0}) ℕ) (m m' : M
 
   goes_on : (u : ℕ) (other : Page) (j i : ℕ) (b b' : Bool)
       → v.core.phase ≡ phase.Holding u other j b → Held (phase.Holding u other i b')
-  goes_on u other j i b b' was t page stored published held =
-      let same : u ≡ t = cc in
-      (other, j, b, was ∙ ap (λ w. phase.Holding w other j b) same)
+  goes_on u other j i b b' was t page stored published held = grind (arith, common_steps)
 
   -- what was shown before was shown
   still : (ds : List Action) (t : ℕ) (page : Page) (stored : ℕ) (published : Bool)
@@ -160,9 +152,7 @@ module _ {E : Type 0} (X : Election E) (P : Protocol E (Unit {0}) ℕ) (m m' : M
   keeps : (w : Sender E) (ds : List Action) → Held w.core.phase
       → found_since (places_found D) ds ≡ places_found D → Shows X m' s (Some w) (D ++ ds)
   keeps w ds same none t page stored published held r n has =
-      let was = same t page stored published held in
-      still ds t was.0 was.1 was.2 was.3 r n
-      (subst (λ l. slice_get l r ≡ Some n) (found_on [] D ds ∙ none) has)
+      grind (arith, still, slice_get, found_on)
 
   -- it holds no page then
   away : (w : Sender E) (ds : List Action) → IsAway w.core.phase → Shows X m' s (Some w) ds
@@ -170,9 +160,7 @@ module _ {E : Type 0} (X : Election E) (P : Protocol E (Unit {0}) ℕ) (m m' : M
 
   -- it has just taken a page
   takes : (w : Sender E) (ds : List Action) → places_found ds ≡ [] → Shows X m' s (Some w) ds
-  takes w ds none t page stored published held r n has = absurd (let bad : None ≡ Some n =
-      sym (ap (λ l. slice_get l r) none) ∙ has in
-      cc)
+  takes w ds none t page stored published held r n has = grind (arith, common_steps, slice_get)
 
   -- ---- a load of a passed place
   module _ (u : ℕ) (q : Passing) (i : situation X v ≡ ReadsPassed u q) where
@@ -182,15 +170,7 @@ module _ {E : Type 0} (X : Election E) (P : Protocol E (Unit {0}) ℕ) (m m' : M
     -- of the tenure whose page it holds
     own : (page : Page) × (stored : ℕ) × (published : Bool)
         × (v.core.phase ≡ phase.Holding u page stored published)
-    own = by v.reuse (situation_tells X v (ReadsPassed u q) i) where
-      by : (o : Option Reuse)
-          → SituationTells v.core.layout.passers (ReadsPassed u q) o (situation_of X v.core)
-          → (page : Page) × (stored : ℕ) × (published : Bool)
-          × (v.core.phase ≡ phase.Holding u page stored published)
-      by None w = absurd w
-      by (Some r) w =
-          let its = tells X v.core (GivesBack u w.page NoRoom) w.gives in
-          (w.page, its.0, its.1, its.2)
+    own = grind (arith, common_steps, situation_tells, tells)
 
     loads : LoadsPassed X m v word (length (places_found D))
     loads = loads_in_turn X P m T sits reached s v u word q at i
@@ -206,9 +186,7 @@ module _ {E : Type 0} (X : Election E) (P : Protocol E (Unit {0}) ℕ) (m m' : M
       there = at;
       word = word;
       loads = loads;
-      shows =
-          sym (ap (number_found (slice_index m.words)) loads.is)
-          ∙ ap (λ z. number_found (slice_index m.words) ((line X v z).op word)) i;
+      shows = grind (arith, common_steps, slice_index, loads);
       many = refl;
       rest = [];
       since = refl;
@@ -216,9 +194,7 @@ module _ {E : Type 0} (X : Election E) (P : Protocol E (Unit {0}) ℕ) (m m' : M
 
     floored : (b : Bool) (l : Passing)
         → Held (cond b (core_floored v.core l.least) v.core).phase
-    floored true l t page stored published held =
-        let was = floored_from l.least v.core.phase t page stored published held in
-        (was.0, stored, published, was.1)
+    floored true l t page stored published held = grind (arith, common_steps, floored_from)
     floored false l t page stored published held = (page, stored, published, held)
 
     reads : Good (ReadsPassed u q)
@@ -228,14 +204,7 @@ module _ {E : Type 0} (X : Election E) (P : Protocol E (Unit {0}) ℕ) (m m' : M
         elim (last_or (places_found D) n r g
         (subst (λ l. slice_get l r ≡ Some g) (found_on [] D (did (ReadsPassed u q))) has)) [
           | inl old ↦ still (did (ReadsPassed u q)) t was.0 was.1 was.2 was.3 r g old
-          | inr new ↦
-              let tenures : phase.Holding u own.0 own.1 own.2 ≡ phase.Holding t was.0 was.1 was.2 =
-              sym own.3 ∙ was.3 in
-              let same : u ≡ t = cc in
-              subst (λ w. WasShown X m' s (D ++ did (ReadsPassed u q)) w r g) same
-              (subst (λ w. WasShown X m' s (D ++ did (ReadsPassed u q)) u w g) new.0
-              (subst (λ w. WasShown X m' s (D ++ did (ReadsPassed u q)) u (length (places_found D))
-              w) new.1 this))
+          | inr new ↦ grind (arith, common_steps, own, length, this)
         ]
 
   -- ---- whatever the turn is
@@ -243,19 +212,10 @@ module _ {E : Type 0} (X : Election E) (P : Protocol E (Unit {0}) ℕ) (m m' : M
   by_turn (Does IsClosed) i = keeps v [] (same_held v.core.phase refl) refl
   by_turn (Does IsIdle) i = keeps v [] (same_held v.core.phase refl) refl
   by_turn (Does IsSpent) i = keeps v [] (same_held v.core.phase refl) refl
-  by_turn (Does LooksAtStage) i =
-      away (seen X v.core v.reuse (got (Does LooksAtStage))) (D ++ did (Does LooksAtStage))
-      (looks X v v.reuse (got (Does LooksAtStage)) (phase_tells X v LooksAtStage i))
-  by_turn (Does (Elects t e)) i =
-      let z = Does (Elects t e) in
-      away ((line X v z).fed (got z) word) (D ++ did z)
-      (elected X v t (X.fed e (got z) word) (X.owner (X.fed e (got z) word)))
-  by_turn (Does (TakesPage t)) i =
-      let z = Does (TakesPage t) in
-      takes (after z) (D ++ did z) (found_on [] D (did z))
-  by_turn (Does (AwaitsPage t)) i =
-      absurd (subst (Fits (base_of m) f.V f.frames v.core) (phase_tells X v (AwaitsPage t) i)
-      part.fits)
+  by_turn (Does LooksAtStage) i = grind (arith, away, looks, phase_tells)
+  by_turn (Does (Elects t e)) i = grind (arith, away, elected)
+  by_turn (Does (TakesPage t)) i = grind (arith, common_steps, takes, found_on)
+  by_turn (Does (AwaitsPage t)) i = grind (arith, common_steps, f, phase_tells, part)
   by_turn (Does (StoresWord t page j)) i =
       let z = Does (StoresWord t page j) in
       let own = phase_tells X v (StoresWord t page j) i in
@@ -265,19 +225,12 @@ module _ {E : Type 0} (X : Election E) (P : Protocol E (Unit {0}) ℕ) (m m' : M
       let z = Does (StoresLength t page j) in
       let own = phase_tells X v (StoresLength t page j) i in
       keeps ((line X v z).fed (got z) word) (did z) (goes_on t page j j own.0 true own.1) refl
-  by_turn (Does (GivesBack t page reason)) i =
-      let z = Does (GivesBack t page reason) in
-      away ((line X v z).fed (got z) word) (D ++ did z) (λ u other stored published held. cc)
-  by_turn (Does (HasHanded t reason)) i =
-      let z = Does (HasHanded t reason) in
-      away ((line X v z).fed (got z) word) (D ++ did z) (λ u other stored published held. cc)
+  by_turn (Does (GivesBack t page reason)) i = grind (arith, common_steps, away)
+  by_turn (Does (HasHanded t reason)) i = grind (arith, common_steps, away)
   by_turn (Announces t) i =
       let z = Announces t in
       keeps ((line X v z).fed (got z) word) (did z) (same_held v.core.phase refl) refl
-  by_turn (Validates t) i =
-      let z = Validates t in
-      away ((line X v z).fed (got z) word) (D ++ did z)
-      (validated X v t (got z / 2 == t) (enters X P m T sits reached s v at t i).0)
+  by_turn (Validates t) i = grind (arith, common_steps, away, validated, enters)
   by_turn (Unpins t) i =
       let z = Unpins t in
       keeps ((line X v z).fed (got z) word) (did z) (same_held v.core.phase refl) refl
@@ -298,11 +251,7 @@ module _ {E : Type 0} (X : Election E) (P : Protocol E (Unit {0}) ℕ) where
   K m q o D es = Shows X m q o D
 
   starts : (m : Machine E) (q : ℕ) → IsNew m → K m q (slice_get m.senders q) [] []
-  starts m q new = by (slice_get m.senders q) where
-    by : (o : Option (Sender E)) → K m q o [] []
-    by None = tt
-    by (Some v) = λ t page stored published held r n has.
-        absurd (let bad : None ≡ Some n = has in cc)
+  starts m q new = grind (arith, common_steps, slice_get)
 
   stays : (m m' : Machine E) → ((b : Machine E) → LeadsOn X b m → LeadsOn X b m') → (q : ℕ)
       (o : Option (Sender E)) (D : List Action) → Shows X m q o D → Shows X m' q o D

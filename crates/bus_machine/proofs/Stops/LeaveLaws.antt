@@ -1,22 +1,21 @@
 -- A leave of a receiver is for good.
-use Rattle.std.proofs.Common.{◌≡◌, ◌≢◌, ℕ, Bool, true, false, Option, Some, None, inl, inr}
-use Rattle.std.proofs.Common.{List, All, [], ◌∷◌, ◌++◌, slice_get, slice_index, slice_set}
-use Rattle.std.proofs.Common.{length, ◌+◌, ◌*◌, ◌<◌, cond, nat_lt, arith}
-use Rattle.std.proofs.Common.{refl, sym, ◌∙◌, ap, subst}
+use Rattle.std.proofs.Common.{◌≡◌, ◌≢◌, ℕ, Bool, true, false, Option, Some, None, inl, inr, List}
+use Rattle.std.proofs.Common.{All, [], ◌∷◌, slice_get, slice_index, slice_set, length, ◌+◌, ◌<◌}
+use Rattle.std.proofs.Common.{nat_lt, arith, refl, sym, ◌∙◌, ap}
 use Rattle.std.proofs.lemmas.Bool.{true≢false, cases_eq, cases_Bool, ltb-true}
 use Rattle.std.proofs.lemmas.List.{append-nil, get_or-set_same, get_or-set_other}
 use Rattle.std.proofs.lemmas.List.{length-replicate}
 use Rattle.std.proofs.lemmas.List.Elements.{All-head, All-tail}
 use Rattle.std.proofs.lemmas.Option.{same_Some, slice_get_within}
+use Rattle.std.proofs.lemmas.Grind.{common_steps}
 use Rattle.bus_register.specs.Private.TableLaws.{get_set_same, get_set_other}
 use Rattle.bus_register.specs.Protocol.{Protocol}
 use Rattle.bus_register.specs.declared.limits.TheConstants.{PASSED_ALL}
 use Rattle.bus_core.specs.Senders.{Sender, Situation, Does, Announces, Validates, Unpins}
 use Rattle.bus_core.specs.Senders.{Withdraws, Scans, Clears, ReadsPassed, situation}
 use Rattle.bus_core.specs.Table.{Line, line_now}
-use Rattle.bus_core.specs.declared.limits.TheConstants.{PASSED_APART}
 use Rattle.bus_deliverylog.specs.Receiving.{Receiving, with_leave, leaving_by, leaving_op}
-use Rattle.bus_deliverylog.specs.Receiving.{receiving_op, joining_op}
+use Rattle.bus_deliverylog.specs.Receiving.{joining_op}
 use Rattle.bus_adoptcommit.specs.declared.verdicts.Verdict.{Verdict}
 use Rattle.bus_tenure.specs.Core.{Election, Layout}
 use Rattle.bus_tenure.specs.Elections.{Elector}
@@ -34,8 +33,7 @@ use Rattle.bus_world.specs.declared.events.StepFault.{StepFault}
 use Rattle.bus_world.specs.declared.events.StepFault.TheVariants as fault
 use Rattle.bus_machine.specs.Machine.{Machine, Trails, Happens, IsOnWord, LeavesForGood}
 use Rattle.bus_machine.specs.Machine.{trails_grown, turn_grown, turn_trails, going, found}
-use Rattle.bus_machine.specs.Machine.{heard_grown, log_place, passed_by, passers_place, Reached}
-use Rattle.bus_machine.specs.Machine.{New, Then, Joins, fork_in}
+use Rattle.bus_machine.specs.Machine.{log_place, passed_by, Reached, New, Then, Joins, fork_in}
 use Rattle.bus_machine.specs.Playing.{AllAnswered, trails_after}
 use Rattle.bus_machine.specs.Leaves.{is_gone, has_left, JustLeft, StaysGone}
 use Rattle.bus_machine.specs.Leaves.{LeavesAreForGood, LeaveRefuses}
@@ -54,25 +52,14 @@ module _ {E : Type 0} (X : Election E) (m m' : Machine E) where
   event_leaves (Ask s asked) a r left h = ap (λ (y : Machine E). slice_get y.receivers r) h.after
   event_leaves (Turn s word) a r left h = ap (λ (y : Machine E). slice_get y.receivers r) h.after
   event_leaves (Stop s) a r left h = ap (λ (y : Machine E). slice_get y.receivers r) h.after
-  event_leaves (Recv q) a r left h = elim (cases_eq r q) [
-    | inl e ↦ absurd (late q h.receiver (ap (has_left m) (sym e) ∙ left) h.there h.stays)
-    | inr ne ↦
-        ap (λ (y : Machine E). slice_get y.receivers r) h.after
-        ∙ get_set_other m.receivers q h.next r ne
-  ]
-  event_leaves (Gone q) a r left h = elim (cases_eq r q) [
-    | inl e ↦ absurd (late q h.receiver (ap (has_left m) (sym e) ∙ left) h.there h.stays)
-    | inr ne ↦
-        ap (λ (y : Machine E). slice_get y.receivers r) h.after
-        ∙ get_set_other m.receivers q (with_leave h.receiver) r ne
-  ]
+  event_leaves (Recv q) a r left h =
+      grind (arith, common_steps, cases_eq, late, slice_get, get_set_other)
+  event_leaves (Gone q) a r left h =
+      grind (arith, common_steps, cases_eq, late, slice_get, get_set_other)
 
   -- a turn of a receiver is no leave
   turn_keeps : (words : ℕ → ℕ) (v w : Receiving) (t : _) → RecvDoes words v t w → w.gone ≡ v.gone
-  turn_keeps words v w t d = elim (cases_Bool v.ended) [
-    | inl ended ↦ ap (λ (u : Receiving). u.gone) (d.ended ended).1
-    | inr goes ↦ (d.going goes).keeps.4
-  ]
+  turn_keeps words v w t d = grind (arith, common_steps, cases_Bool)
 
   -- nobody leaves by an event that is no leave of its own
   event_tells : (e : Event) (a : Answer) (r : ℕ) → e ≢ Gone r → Happens X m e a m'
@@ -82,23 +69,10 @@ module _ {E : Type 0} (X : Election E) (m m' : Machine E) where
   event_tells (Turn s word) a r other h = ap (λ (y : Machine E). has_left y r) h.after
   event_tells (Stop s) a r other h = ap (λ (y : Machine E). has_left y r) h.after
   event_tells (Recv q) a r other h = elim (cases_eq r q) [
-    | inl e ↦
-        (let low = slice_get_within m.receivers q h.receiver h.there in
-        let now : has_left m' q ≡ h.next.gone =
-        ap (λ (y : Machine E). has_left y q) h.after
-        ∙ ap is_gone (get_set_same m.receivers q h.next low) in
-        ap (has_left m') e ∙ now ∙ turn_keeps (slice_index m.words) h.receiver h.next h.heard h.does
-        ∙ sym (ap is_gone h.there) ∙ ap (has_left m) (sym e))
-    | inr ne ↦
-        ap (λ (y : Machine E). has_left y r) h.after
-        ∙ ap is_gone (get_set_other m.receivers q h.next r ne)
+    | inl e ↦ grind (arith, common_steps, slice_get_within, get_set_same, turn_keeps, slice_index)
+    | inr ne ↦ grind (arith, common_steps, get_set_other)
   ]
-  event_tells (Gone q) a r other h = elim (cases_eq r q) [
-    | inl e ↦ absurd (other (ap Gone (sym e)))
-    | inr ne ↦
-        ap (λ (y : Machine E). has_left y r) h.after
-        ∙ ap is_gone (get_set_other m.receivers q (with_leave h.receiver) r ne)
-  ]
+  event_tells (Gone q) a r other h = grind (arith, common_steps, cases_eq, get_set_other)
 
 -- ---- what is answered
 module _ {E : Type 0} (X : Election E) (m : Machine E) (T : Trails) (r : ℕ) where
@@ -133,12 +107,8 @@ module _ {E : Type 0} (X : Election E) (m : Machine E) (T : Trails) (r : ℕ) wh
   event_heard m' (Turn s word) a left h = sender_heard s word (going m s) a
   event_heard m' (Stop s) a left h = refl
   event_heard m' (Gone q) a left h = refl
-  event_heard m' (Recv q) a left h = elim (cases_eq r q) [
-    | inl e ↦ absurd (late X m m' q h.receiver (ap (has_left m) (sym e) ∙ left) h.there h.stays)
-    | inr ne ↦
-        ap (λ k. heard_grown q k T.heard r) h.answered
-        ∙ ap (λ b. T.heard r ++ b) (cond_beside r q (h.heard ∷ []) [] ne) ∙ append-nil (T.heard r)
-  ]
+  event_heard m' (Recv q) a left h =
+      grind (arith, common_steps, cases_eq, late, cond_beside, append-nil)
 
 -- ---- a leave
 module _ {E : Type 0} (old new : Machine E) (r : ℕ) (a : Answer) (h : LeavesForGood old r a new)
@@ -146,9 +116,7 @@ module _ {E : Type 0} (old new : Machine E) (r : ℕ) (a : Answer) (h : LeavesFo
     shown : (place : ℕ) (o : Option ℕ) → IsOnWord old (leaving_by o) → o ≡ Some place
         → slice_index (words_after old.words (leaving_by o)) place ≡ PASSED_ALL
     shown place None w e = absurd (let bad : None ≡ Some place = e in cc)
-    shown place (Some q) w e =
-        subst (λ p. slice_index (words_after old.words (leaving_by (Some q))) p ≡ PASSED_ALL)
-        (same_Some q place e) (get_or-set_same old.words q PASSED_ALL 0 w)
+    shown place (Some q) w e = grind (arith, common_steps, slice_index, same_Some, get_or-set_same)
 
     beside : (place : ℕ) (o : Option ℕ) → o ≢ Some place
         → slice_index (words_after old.words (leaving_by o)) place ≡ slice_index old.words place
@@ -165,16 +133,9 @@ module _ {E : Type 0} (old new : Machine E) (r : ℕ) (a : Answer) (h : LeavesFo
       receiver = h.receiver;
       there = h.there;
       stayed = h.stays;
-      left =
-          ap (λ (y : Machine E). slice_get y.receivers r) h.after
-          ∙ get_set_same old.receivers r (with_leave h.receiver)
-          (slice_get_within old.receivers r h.receiver h.there);
-      others = λ q ne.
-          ap (λ (y : Machine E). slice_get y.receivers q) h.after
-          ∙ get_set_other old.receivers r (with_leave h.receiver) q ne;
-      shows = λ place is.
-          ap (λ ws. slice_index ws place) words_are
-          ∙ shown place h.receiver.passed_at h.within is;
+      left = grind (arith, common_steps, slice_get, get_set_same, slice_get_within);
+      others = λ q ne. grind (arith, common_steps, slice_get, get_set_other);
+      shows = λ place is. grind (arith, common_steps, slice_index, words_are, shown);
       words = λ place ne.
           ap (λ ws. slice_index ws place) words_are ∙ beside place h.receiver.passed_at ne;
       nothing_else = h.after ∙ ap (λ (y : Machine E).
@@ -199,9 +160,7 @@ leave_refuses {E} X = record {
       ap is_gone (sym j.left ∙ j.there) in
       true≢false (gone ∙ j.stayed);
   unshown_leave = λ old new r place v a there is other h.
-      let j = just_left old new r a h in
-      let same = same_Some v j.receiver (sym there ∙ j.there) in
-      other (j.shows place (ap (λ (u : Receiving). u.passed_at) (sym same) ∙ is));
+      grind (arith, common_steps, just_left, same_Some);
   late_turn = λ old new r a left h. late X old new r h.receiver left h.there h.stays;
   second_leave = λ old new r a left h. late X old new r h.receiver left h.there h.stays;
   recv_untimely = λ m r stays w. not_as_gone (slice_get m.receivers r) stays w;
@@ -215,16 +174,10 @@ module _ {E : Type 0} (X : Election E) where
       → length m'.words ≡ length m.words
   event_words m m' (Put s bytes) a h = ap (λ (y : Machine E). length y.words) h.after
   event_words m m' (Ask s asked) a h = ap (λ (y : Machine E). length y.words) h.after
-  event_words m m' (Turn s word) a h =
-      ap (λ (y : Machine E). length y.words) h.after
-      ∙ words_many m.words ((line_now X h.sender).op word)
-  event_words m m' (Recv q) a h =
-      ap (λ (y : Machine E). length y.words) h.after
-      ∙ words_many m.words (receiving_op h.receiver)
+  event_words m m' (Turn s word) a h = grind (arith, common_steps, length, words_many)
+  event_words m m' (Recv q) a h = grind (arith, common_steps, length, words_many)
   event_words m m' (Stop s) a h = ap (λ (y : Machine E). length y.words) h.after
-  event_words m m' (Gone q) a h =
-      ap (λ (y : Machine E). length y.words) h.after
-      ∙ words_many m.words (leaving_op h.receiver)
+  event_words m m' (Gone q) a h = grind (arith, common_steps, length, words_many)
 
   abbrev size_of : Machine E → ℕ
   size_of m = log_place m.layout m.reuse + m.layout.capacity
@@ -248,15 +201,8 @@ module _ {E : Type 0} (X : Election E) where
       → passed_by x o r ≡ Some place → place < log_place x o + x.capacity
   passed_low x None r place flat is =
       absurd (let bad : None ≡ Some place = sym (passed_first x None r (flat refl)) ∙ is in cc)
-  passed_low x (Some rows) r place flat is = by (nat_lt r x.passers) refl is where
-    by : (b : Bool) → nat_lt r x.passers ≡ b
-        → cond {A = Option ℕ} b (Some (passers_place x (Some rows) + PASSED_APART * r)) None
-        ≡ Some place → place < log_place x (Some rows) + x.capacity
-    by false e i = absurd cc
-    by true e i =
-        let low = ltb-true r x.passers e in
-        let same : passers_place x (Some rows) + PASSED_APART * r ≡ place = same_Some _ _ i in
-        omega arith
+  passed_low x (Some rows) r place flat is =
+      grind (arith, common_steps, nat_lt, ltb-true, same_Some)
 
   on_leave : (m : Machine E) (o : Option ℕ) → ((place : ℕ) → o ≡ Some place
       → place < length m.words) → IsOnWord m (leaving_by o)
@@ -266,9 +212,7 @@ module _ {E : Type 0} (X : Election E) where
   no_cause : (o : Option Receiving) (v : Receiving) (why : StepFault) → o ≡ Some v
       → v.gone ≡ false → RecvRefused o why → ⊥
   no_cause None v why there stays w = absurd (let bad = there in cc)
-  no_cause (Some u) v why there stays w =
-      let same : u ≡ v = same_Some _ _ there in
-      true≢false (sym w.0 ∙ ap (λ (y : Receiving). y.gone) same ∙ stays)
+  no_cause (Some u) v why there stays w = cc
 
   may_leave : (m : Machine E) (T : Trails) (r : ℕ) (v : Receiving) → Reached X m T
       → slice_get m.receivers r ≡ Some v → v.gone ≡ false
@@ -285,10 +229,8 @@ module _ {E : Type 0} (X : Election E) where
         receiver = v;
         there = there;
         stays = stays;
-        within = on_leave m v.passed_at (λ place is.
-            let low = passed_low m.layout m.reuse r place (flat_at_none X m T led)
-            (sym (passes_by X m T led r v there) ∙ is) in
-            let many = many_words m T led in omega arith);
+        within =
+            grind (arith, common_steps, on_leave, passed_low, flat_at_none, passes_by, many_words);
         answered = refl;
         after = refl;
       },
@@ -300,11 +242,7 @@ module _ {S : Type 0} (X : Election (Elector S)) (P : Protocol S Bool Verdict) w
   stays : (events : List Event) (old new : Machine (Elector S))
       (run : AllAnswered X P old events new) (T : Trails) (r : ℕ) → has_left old r ≡ true
       → StaysGone old T r new (trails_after X P old events new run T)
-  stays [] old new run T r left = record {
-    left = ap (λ (y : Machine (Elector S)). has_left y r) run ∙ left;
-    state = ap (λ (y : Machine (Elector S)). slice_get y.receivers r) run;
-    heard = refl;
-  }
+  stays [] old new run T r left = grind (arith, common_steps, slice_get)
   stays (e ∷ events) old new run T r left =
       let one = event_leaves X old run.0 e run.1 r left run.2.happens in
       let heard = event_heard X old T r run.0 e run.1 left run.2.happens in

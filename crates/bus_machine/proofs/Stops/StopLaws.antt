@@ -8,6 +8,7 @@ use Rattle.std.proofs.lemmas.List.{length-replicate, set-set, set_comm}
 use Rattle.std.proofs.lemmas.List.Elements.{All-head, All-tail}
 use Rattle.std.proofs.lemmas.Option.{slice_get_within}
 use Rattle.std.proofs.Math.ListN.{length-set}
+use Rattle.std.proofs.lemmas.Grind.{common_steps}
 use Rattle.bus_register.specs.declared.limits.TheConstants.{MOST_SENDERS}
 use Rattle.bus_register.specs.Private.TableLaws.{some_or_none, here_not, get_set_same}
 use Rattle.bus_register.specs.Private.TableLaws.{get_set_other}
@@ -22,7 +23,6 @@ use Rattle.bus_tenure.specs.Core.{Election}
 use Rattle.bus_tenure.specs.Elections.{Elector}
 use Rattle.bus_tenure.specs.declared.turns.Turn.{Turn as Answered}
 use Rattle.bus_world.specs.Playing.{RecvRefused}
-use Rattle.bus_world.specs.Trails.{put_actions, mark_actions}
 use Rattle.bus_world.specs.World.{Event, Put, Ask, Turn, Recv, Stop, Gone, is_set}
 use Rattle.bus_world.specs.declared.events.Answer.{Answer}
 use Rattle.bus_world.specs.declared.events.Answer.TheVariants as answer
@@ -61,30 +61,12 @@ module _ {E : Type 0} (X : Election E) where
   -- the senders are as many, and the sizes the same
   many_after : (w m : Machine E) (e : Event) (a : Answer) → Happens X w e a m
       → (length m.senders ≡ length w.senders) × (m.layout ≡ w.layout)
-  many_after w m (Put s bytes) a h = (
-    ap (λ (y : Machine E). length y.senders) h.after ∙ length-set w.senders s _,
-    ap (λ (y : Machine E). y.layout) h.after,
-  )
-  many_after w m (Ask s asked) a h = (
-    ap (λ (y : Machine E). length y.senders) h.after ∙ length-set w.senders s _,
-    ap (λ (y : Machine E). y.layout) h.after,
-  )
-  many_after w m (Turn s word) a h = (
-    ap (λ (y : Machine E). length y.senders) h.after ∙ length-set w.senders s _,
-    ap (λ (y : Machine E). y.layout) h.after,
-  )
-  many_after w m (Recv r) a h = (
-    ap (λ (y : Machine E). length y.senders) h.after,
-    ap (λ (y : Machine E). y.layout) h.after,
-  )
-  many_after w m (Stop s) a h = (
-    ap (λ (y : Machine E). length y.senders) h.after,
-    ap (λ (y : Machine E). y.layout) h.after,
-  )
-  many_after w m (Gone r) a h = (
-    ap (λ (y : Machine E). length y.senders) h.after,
-    ap (λ (y : Machine E). y.layout) h.after,
-  )
+  many_after w m (Put s bytes) a h = grind (arith, common_steps, length, length-set)
+  many_after w m (Ask s asked) a h = grind (arith, common_steps, length, length-set)
+  many_after w m (Turn s word) a h = grind (arith, common_steps, length, length-set)
+  many_after w m (Recv r) a h = grind (arith, common_steps, length)
+  many_after w m (Stop s) a h = grind (arith, common_steps, length)
+  many_after w m (Gone r) a h = grind (arith, common_steps, length)
 
   -- who there is is one of its senders
   reached_below : (m : Machine E) (T : Trails) → Reached X m T → (p : ℕ) → p < length m.senders
@@ -144,56 +126,12 @@ module _ {E : Type 0} (X : Election E) (m : Machine E) (s : ℕ) (t : Bool) wher
 
   happens_alike : (e : Event) (a : Answer) (next : Machine E) → IsOfOther s e → Happens X m e a next
       → Happens X told e a (with_stop_of s t next)
-  happens_alike (Put q bytes) a next ne h = record {
-    sender = h.sender;
-    goes = going_alike q ne ∙ h.goes;
-    are_bytes = h.are_bytes;
-    can = h.can;
-    answered = h.answered;
-    after = ap (with_stop_of s t) h.after;
-  }
-  happens_alike (Ask q asked) a next ne h = record {
-    sender = h.sender;
-    goes = going_alike q ne ∙ h.goes;
-    can = h.can;
-    answered = h.answered;
-    after = ap (with_stop_of s t) h.after;
-  }
-  happens_alike (Turn q word) a next ne h = record {
-    sender = h.sender;
-    goes = going_alike q ne ∙ h.goes;
-    within = on_word _ h.within;
-    answered = h.answered;
-    after = ap (with_stop_of s t) h.after;
-  }
-  happens_alike (Recv r) a next ne h = record {
-    receiver = h.receiver;
-    next = h.next;
-    heard = h.heard;
-    there = h.there;
-    stays = h.stays;
-    within = on_word _ h.within;
-    does = h.does;
-    answered = h.answered;
-    after = ap (with_stop_of s t) h.after;
-  }
-  happens_alike (Stop q) a next ne h = record {
-    sender = h.sender;
-    goes = going_alike q ne ∙ h.goes;
-    answered = h.answered;
-    after =
-        ap (with_stop_of s t) h.after
-        ∙ ap (λ l. record m { stopped = l })
-        (sym (set_comm m.stopped s q t true (λ e. ne (sym e))));
-  }
-  happens_alike (Gone r) a next ne h = record {
-    receiver = h.receiver;
-    there = h.there;
-    stays = h.stays;
-    within = on_word _ h.within;
-    answered = h.answered;
-    after = ap (with_stop_of s t) h.after;
-  }
+  happens_alike (Put q bytes) a next ne h = grind (arith, common_steps, going_alike)
+  happens_alike (Ask q asked) a next ne h = grind (arith, common_steps, going_alike)
+  happens_alike (Turn q word) a next ne h = grind (arith, common_steps, going_alike, on_word)
+  happens_alike (Recv r) a next ne h = grind (arith, common_steps, on_word)
+  happens_alike (Stop q) a next ne h = grind (arith, common_steps, going_alike, set_comm)
+  happens_alike (Gone r) a next ne h = grind (arith, common_steps, on_word)
 
   trails_alike : (e : Event) (g : Answer) (T : Trails) → IsOfOther s e
       → trails_grown X told e g T ≡ trails_grown X m e g T
@@ -209,9 +147,7 @@ module _ {E : Type 0} (m : Machine E) (s : ℕ) (l : List Bool)
     (same : (q : ℕ) → q ≢ s → has_stopped (record m { stopped = l }) q ≡ has_stopped m q) where
   refused_alike : (e : Event) (why : StepFault) → IsOfOther s e → Refused m e why
       → Refused (record m { stopped = l }) e why
-  refused_alike (Put q bytes) why ne w = subst
-      (λ t. SenderRefused (slice_get m.senders q) t why (PutRefused (length bytes) why))
-      (sym (same q ne)) w
+  refused_alike (Put q bytes) why ne w = grind (arith, common_steps, slice_get, length)
   refused_alike (Ask q asked) why ne w = subst
       (λ t. SenderRefused (slice_get m.senders q) t why (CloseRefused why)) (sym (same q ne)) w
   refused_alike (Turn q word) why ne w =
@@ -233,46 +169,19 @@ the_same s T = record { actions = refl; pins = refl; reclaims = refl }
 module _ {E : Type 0} (X : Election E) (m : Machine E) (q s : ℕ) (ne : s ≢ q) where
   line_adds : (z : Situation E) (l : Line E) (got word : ℕ) (t : Answered) (T : Trails)
       → AddsNothing s T (turn_trails z l q got word t T)
-  line_adds (Does z) l got word t T = record {
-    actions = actions_of_other q _ T.actions s ne;
-    pins = refl;
-    reclaims = refl;
-  }
-  line_adds (Announces u) l got word t T = record {
-    actions = actions_of_other q [] T.actions s ne;
-    pins = entered_beside T.pins q s (l.op word) got ne;
-    reclaims = refl;
-  }
-  line_adds (Validates u) l got word t T = record {
-    actions = actions_of_other q [] T.actions s ne;
-    pins = entered_beside T.pins q s (l.op word) got ne;
-    reclaims = refl;
-  }
-  line_adds (Unpins u) l got word t T = record {
-    actions = actions_of_other q [] T.actions s ne;
-    pins = entered_beside T.pins q s (l.op word) got ne;
-    reclaims = refl;
-  }
-  line_adds (Withdraws u) l got word t T = record {
-    actions = actions_of_other q [] T.actions s ne;
-    pins = entered_beside T.pins q s (l.op word) got ne;
-    reclaims = refl;
-  }
-  line_adds (Scans r) l got word t T = record {
-    actions = actions_of_other q [] T.actions s ne;
-    pins = refl;
-    reclaims = entered_beside T.reclaims q s (l.op word) got ne;
-  }
-  line_adds (Clears r) l got word t T = record {
-    actions = actions_of_other q [] T.actions s ne;
-    pins = refl;
-    reclaims = entered_beside T.reclaims q s (l.op word) got ne;
-  }
-  line_adds (ReadsPassed u p) l got word t T = record {
-    actions = actions_of_other q _ T.actions s ne;
-    pins = refl;
-    reclaims = refl;
-  }
+  line_adds (Does z) l got word t T = grind (arith, common_steps, actions_of_other)
+  line_adds (Announces u) l got word t T =
+      grind (arith, common_steps, actions_of_other, entered_beside)
+  line_adds (Validates u) l got word t T =
+      grind (arith, common_steps, actions_of_other, entered_beside)
+  line_adds (Unpins u) l got word t T =
+      grind (arith, common_steps, actions_of_other, entered_beside)
+  line_adds (Withdraws u) l got word t T =
+      grind (arith, common_steps, actions_of_other, entered_beside)
+  line_adds (Scans r) l got word t T = grind (arith, common_steps, actions_of_other, entered_beside)
+  line_adds (Clears r) l got word t T =
+      grind (arith, common_steps, actions_of_other, entered_beside)
+  line_adds (ReadsPassed u p) l got word t T = grind (arith, common_steps, actions_of_other)
 
   turn_adds : (o : Option (Sender E)) (word : ℕ) (a : Answer) (T : Trails)
       → AddsNothing s T (turn_grown X m q o word a T)
@@ -291,44 +200,20 @@ module _ {E : Type 0} (X : Election E) where
   leaves : (m m' after : Machine E) (T T' : Trails) (s : ℕ) → m' ≡ after → has_stopped m s ≡ true
       → has_stopped after s ≡ has_stopped m s → slice_get after.senders s ≡ slice_get m.senders s
       → AddsNothing s T T' → StaysStopped m T s m' T'
-  leaves m m' after T T' s is stop same state adds = record {
-    stopped = ap (λ (y : Machine E). has_stopped y s) is ∙ same ∙ stop;
-    state = ap (λ (y : Machine E). slice_get y.senders s) is ∙ state;
-    actions = adds.actions;
-    pins = adds.pins;
-    reclaims = adds.reclaims;
-  }
+  leaves m m' after T T' s is stop same state adds = grind (arith, common_steps, slice_get)
 
   event_leaves : (m m' : Machine E) (e : Event) (a : Answer) (T : Trails) (s : ℕ)
       → has_stopped m s ≡ true → Happens X m e a m' → StaysStopped m T s m' (trails_grown X m e a T)
-  event_leaves m m' (Put q bytes) a T s stop h = elim (cases_eq s q) [
-    | inl e ↦ absurd (late m q s h.sender stop e h.goes)
-    | inr ne ↦ leaves m m' _ T _ s h.after stop refl (get_set_other m.senders q _ s ne) record {
-      actions = actions_of_other q (put_actions bytes a) T.actions s ne;
-      pins = refl;
-      reclaims = refl;
-    }
-  ]
-  event_leaves m m' (Ask q asked) a T s stop h = elim (cases_eq s q) [
-    | inl e ↦ absurd (late m q s h.sender stop e h.goes)
-    | inr ne ↦ leaves m m' _ T _ s h.after stop refl (get_set_other m.senders q _ s ne) record {
-      actions = actions_of_other q (mark_actions a) T.actions s ne;
-      pins = refl;
-      reclaims = refl;
-    }
-  ]
-  event_leaves m m' (Turn q word) a T s stop h = elim (cases_eq s q) [
-    | inl e ↦ absurd (late m q s h.sender stop e h.goes)
-    | inr ne ↦ leaves m m' _ T _ s h.after stop refl (get_set_other m.senders q _ s ne)
-        (turn_adds X m q s ne (going m q) word a T)
-  ]
+  event_leaves m m' (Put q bytes) a T s stop h =
+      grind (arith, common_steps, cases_eq, late, leaves, get_set_other, actions_of_other)
+  event_leaves m m' (Ask q asked) a T s stop h =
+      grind (arith, common_steps, cases_eq, late, leaves, get_set_other, actions_of_other)
+  event_leaves m m' (Turn q word) a T s stop h =
+      grind (arith, common_steps, cases_eq, late, leaves, get_set_other, turn_adds)
   event_leaves m m' (Recv r) a T s stop h = leaves m m' _ T _ s h.after stop refl refl
       record { actions = refl; pins = refl; reclaims = refl }
-  event_leaves m m' (Stop q) a T s stop h = elim (cases_eq s q) [
-    | inl e ↦ absurd (late m q s h.sender stop e h.goes)
-    | inr ne ↦ leaves m m' _ T _ s h.after stop (ap is_set (get_set_other m.stopped q true s ne))
-        refl (the_same s T)
-  ]
+  event_leaves m m' (Stop q) a T s stop h =
+      grind (arith, common_steps, cases_eq, late, leaves, get_set_other, the_same)
   event_leaves m m' (Gone r) a T s stop h =
       leaves m m' _ T _ s h.after stop refl refl (the_same s T)
 
@@ -339,12 +224,7 @@ module _ {E : Type 0} (X : Election E) where
   event_tells m m' (Ask q asked) a s other h = ap (λ (y : Machine E). has_stopped y s) h.after
   event_tells m m' (Turn q word) a s other h = ap (λ (y : Machine E). has_stopped y s) h.after
   event_tells m m' (Recv r) a s other h = ap (λ (y : Machine E). has_stopped y s) h.after
-  event_tells m m' (Stop q) a s other h = elim (cases_eq s q) [
-    | inl e ↦ absurd (other (ap Stop (sym e)))
-    | inr ne ↦
-        ap (λ (y : Machine E). has_stopped y s) h.after
-        ∙ ap is_set (get_set_other m.stopped q true s ne)
-  ]
+  event_tells m m' (Stop q) a s other h = grind (arith, common_steps, cases_eq, get_set_other)
   event_tells m m' (Gone r) a s other h = ap (λ (y : Machine E). has_stopped y s) h.after
 
   -- ---- a stop
@@ -368,16 +248,9 @@ module _ {E : Type 0} (X : Election E) where
       record {
         answered = h.answered;
         went_on = free;
-        stopped =
-            ap (λ (y : Machine E). has_stopped y s) h.after
-            ∙ ap is_set (get_set_same old.stopped s true room);
-        others = λ q ne.
-            ap (λ (y : Machine E). has_stopped y q) h.after
-            ∙ ap is_set (get_set_other old.stopped s true q ne);
-        nothing_else =
-            h.after
-            ∙ ap (λ l. record old { stopped = l })
-            (sym (ap (λ (y : Machine E). y.stopped) h.after));
+        stopped = grind (arith, common_steps, get_set_same);
+        others = λ q ne. grind (arith, common_steps, get_set_other);
+        nothing_else = cc;
         trails = λ U. refl;
         trails_alike = λ e g U other.
             ap (λ y. trails_grown X y e g U) h.after ∙ trails_alike X old s true e g U other;
@@ -385,14 +258,8 @@ module _ {E : Type 0} (X : Election E) where
             (sym h.after) (happens_alike X old s true e g next other w);
         happens_before = λ e g next other w.
             happens_before old s free e g next other (subst (λ y. Happens X y e g next) h.after w);
-        refused_alike = λ e why other. (
-          λ w. subst (λ y. Refused y e why) (sym h.after)
-              (refused_alike old s (slice_set old.stopped s true) (beside X old s true) e why other
-              w),
-          λ w. refused_alike (with_stop_of s true old) s old.stopped
-              (λ q ne. sym (beside X old s true q ne)) e why other
-              (subst (λ y. Refused y e why) h.after w),
-        );
+        refused_alike = λ e why other.
+            grind (arith, common_steps, refused_alike, slice_set, beside);
       }
 
 -- ---- whatever events follow
@@ -401,23 +268,11 @@ module _ {S : Type 0} (X : Election (Elector S)) (P : Protocol S Bool Verdict) w
   stays : (events : List Event) (old new : Machine (Elector S))
       (run : AllAnswered X P old events new) (T : Trails) (s : ℕ) → has_stopped old s ≡ true
       → StaysStopped old T s new (trails_after X P old events new run T)
-  stays [] old new run T s stop = record {
-    stopped = ap (λ (y : Machine (Elector S)). has_stopped y s) run ∙ stop;
-    state = ap (λ (y : Machine (Elector S)). slice_get y.senders s) run;
-    actions = refl;
-    pins = refl;
-    reclaims = refl;
-  }
+  stays [] old new run T s stop = grind (arith, common_steps, slice_get)
   stays (e ∷ events) old new run T s stop =
       let one = event_leaves X old run.0 e run.1 T s stop run.2.happens in
       let rest = stays events run.0 new run.3 (trails_grown X old e run.1 T) s one.stopped in
-      record {
-        stopped = rest.stopped;
-        state = rest.state ∙ one.state;
-        actions = rest.actions ∙ one.actions;
-        pins = rest.pins ∙ one.pins;
-        reclaims = rest.reclaims ∙ one.reclaims;
-      }
+      grind (arith, common_steps)
 
   -- and so none does whose stop is not among them
   goes_on : (events : List Event) (old new : Machine (Elector S)) (s : ℕ)

@@ -1,7 +1,8 @@
 -- A holder clears words of the row of the next tenure alone, in which nobody stands.
 use Rattle.std.proofs.Common.{◌≡◌, ◌≢◌, ℕ, ◌+◌, ◌<◌, Bool, true, false, cond, Option, Some, None}
-use Rattle.std.proofs.Common.{nat_lt, refl, sym, ◌∙◌, ap, subst}
-use Rattle.bus_register.specs.declared.registers.Op.TheVariants.{Load, Store}
+use Rattle.std.proofs.Common.{nat_lt, sym, ◌∙◌, arith}
+use Rattle.std.proofs.lemmas.Grind.{common_steps}
+use Rattle.bus_register.specs.declared.registers.Op.TheVariants.{Store}
 use Rattle.bus_presence.proofs.ReclamationKept.{rows_apart}
 use Rattle.bus_presence.specs.Reclamation.{ReclamationSizes, Reclamation, Trails, row_of, tenure_of}
 use Rattle.bus_presence.specs.Reclaimers.{Reclaiming, reclaim_op}
@@ -38,12 +39,7 @@ op_clears : {E : Type 0} (s q : Reclaiming) (z : Own E) (a b : Bool)
     → nat_lt s.scanned s.senders ≡ a → nat_lt s.cleared s.width ≡ b
     → cond a (Scans s) (cond b (Clears s) (Does z)) ≡ Clears q → (s ≡ q) × ClearsNext s
 op_clears s q z true b i j e = absurd cc
-op_clears s q z false true i j e = (
-  cc,
-  ap (λ y. cond y (Some (Load record { 0 = s.presences + s.scanned }))
-      (cond (nat_lt s.cleared s.width) (Some (Store record { 0 = s.row + s.cleared } 0)) None)) i
-      ∙ ap (λ y. cond y (Some (Store record { 0 = s.row + s.cleared } 0)) None) j,
-)
+op_clears s q z false true i j e = grind (arith, common_steps, nat_lt)
 op_clears s q z false false i j e = absurd cc
 
 -- the same of a reclamation that there may be
@@ -51,18 +47,14 @@ reclaiming_clears : {E : Type 0} (o : Option Reclaiming) (q : Reclaiming) (z : O
     → reclaiming o z ≡ Clears q → (o ≡ Some q)
     × ClearsNext q
 reclaiming_clears None q z i = absurd cc
-reclaiming_clears (Some s) q z i =
-    let w = op_clears s q z (nat_lt s.scanned s.senders) (nat_lt s.cleared s.width) refl refl i in
-    (ap Some w.0, subst ClearsNext w.0 w.1)
+reclaiming_clears (Some s) q z i = grind (arith, common_steps, op_clears, nat_lt)
 
 -- the same of who takes no step of a pin
 home_clears : {E : Type 0} (l : Option Passing) (o : Option Reclaiming) (q : Reclaiming) (z : Own E)
     → at_home l o z ≡ Clears q → (o ≡ Some q) × ClearsNext q
     × IsBack z
 home_clears l o q (GivesBack t page reason) i =
-    let w = reclaiming_clears o q (GivesBack t page reason)
-    (passing_is l t reason (reclaiming o (GivesBack t page reason)) (Clears q) (λ u p e. cc) i) in
-    (w.0, w.1, record { tenure = t; page = page; reason = reason; is = refl })
+    grind (arith, common_steps, reclaiming_clears, passing_is)
 home_clears l o q z i = absurd cc
 
 -- the same with a pin
@@ -92,14 +84,7 @@ pub clearing : {E : Type 0} (X : Election E) (v : Sender E) (s : Reclaiming)
     → situation X v ≡ Clears s → IsClearing v s
 clearing X v s i =
     let w = reuse_clears v.core.layout.passers v.reuse s (own_situation X v.core) i in
-    let back = w.2 in
-    record {
-      reclaims = w.0;
-      step = w.1;
-      tenure = back.tenure;
-      held =
-          ap held_of (tells X v.core (GivesBack back.tenure back.page back.reason) back.is).2;
-    }
+    grind (arith, common_steps, tells)
 
 module _ (x : ReclamationSizes) (h : Reclamation) (T : Trails) (safe : IsSafe x h T)
     (s : Reclaiming) (is : h.reclaimer ≡ Some s)

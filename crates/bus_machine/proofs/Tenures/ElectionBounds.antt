@@ -2,21 +2,20 @@
 -- Those that it took and those that it may take yet are never more: a step joins the ones and
 -- leaves the others.
 use Rattle.std.proofs.Common.{◌≡◌, ℕ, ◌+◌, ◌-◌, ◌*◌, ◌/◌, ◌<◌, ◌≤◌, Bool, true, false, cond, ◌==◌}
-use Rattle.std.proofs.Common.{nat_le, Option, Some, None, is_some, List, [], ◌∷◌, ◌++◌, filter}
-use Rattle.std.proofs.Common.{length, slice_get, arith, refl, sym, ◌∙◌, ap, subst}
+use Rattle.std.proofs.Common.{nat_le, Option, Some, None, is_some, List, [], ◌++◌, filter, length}
+use Rattle.std.proofs.Common.{slice_get, arith, refl, sym, ◌∙◌, ap, subst}
 use Rattle.std.proofs.lemmas.Bool.{true≢false}
 use Rattle.std.proofs.lemmas.Bool.Decides.{nat_tests}
 use Rattle.std.proofs.lemmas.List.{length-append}
 use Rattle.std.proofs.lemmas.List.Elements.{filter-append}
+use Rattle.std.proofs.lemmas.Grind.{common_steps}
 use Rattle.bus_core.specs.Senders.{Sender, Situation, Does, Validates, situation, ReadsPassed}
-use Rattle.bus_core.specs.Reusing.Passing.{passing_fed}
 use Rattle.bus_core.specs.Table.{line, line_now, seen}
 use Rattle.bus_core.specs.declared.reuses.Reuse.{Reuse}
 use Rattle.bus_presence.specs.Reclamation.{Entry}
 use Rattle.bus_register.specs.Protocol.{Protocol}
 use Rattle.bus_register.specs.Tables.{of_some}
 use Rattle.bus_register.specs.declared.kinds.Kind.{Kind}
-use Rattle.bus_register.specs.declared.kinds.Kind.TheVariants as kind
 use Rattle.bus_register.specs.declared.registers.Op.{Op}
 use Rattle.bus_tenure.specs.Core.{Core, Election, Layout, row_at}
 use Rattle.bus_tenure.specs.Seen.{tenure_of}
@@ -41,7 +40,7 @@ use Rattle.bus_machine.proofs.Tenures.Entering.{entry, entry_from, entry_in, may
 use Rattle.bus_machine.proofs.Tenures.Entering.{enters}
 use Rattle.bus_machine.proofs.Frames.Framed.{IsFramed, framed}
 use Rattle.bus_machine.proofs.Bases.Leading.{Sits}
-use Rattle.bus_machine.specs.Bounding.{is_of_holder, is_towards, steps_towards, AreBounded}
+use Rattle.bus_machine.specs.Bounding.{is_towards, steps_towards, AreBounded}
 use Rattle.bus_machine.specs.Machine.{base_of, Machine, Trails, Reached, IsNew}
 use Rattle.bus_machine.specs.Machine.{found, turn_answer, moved, put_in, mark_in}
 
@@ -56,11 +55,7 @@ towards_more t xs ds = ap length (filter-append (is_towards t) xs ds)
 step_adds : (s t : ℕ) (k : Option Kind) (got : ℕ) (chose : Option ℕ) (told : Answered)
     → steps_towards s (step_action k (Some t) got chose told) ≤ cond (t == s) 1 0
 step_adds s t None got chose told = omega arith
-step_adds s t (Some k) got chose told = by (is_of_holder k) (t == s) _ where
-  by : (a b : Bool) (d : Action) → length (cond (cond a false b) (d ∷ []) []) ≤ cond b 1 0
-  by true b d = omega arith
-  by false true d = omega arith
-  by false false d = omega arith
+step_adds s t (Some k) got chose told = grind (arith, common_steps, length)
 
 -- puts and marks add none
 put_adds : (t : ℕ) (bytes : List ℕ) (a : Answer) → steps_towards t (put_actions bytes a) ≡ 0
@@ -115,11 +110,7 @@ module _ {E : Type 0} (left : E → ℕ) (bound : ℕ) where
 
   falls_within : (v v' : Sender E) (D ds : List Action) → Falls v.core v'.core ds
       → AreWithin (Some v) D → AreWithin (Some v') (D ++ ds)
-  falls_within v v' D ds falls k = λ t.
-      let more = towards_more t D ds in
-      let less = falls.less t in
-      let most = k t in
-      omega arith
+  falls_within v v' D ds falls k = grind (arith, common_steps, towards_more)
 
   -- with actions that are no steps
   falls_by : (c c' : Core E) (ds : List Action) → ((s : ℕ) → steps_towards s ds ≡ 0)
@@ -144,10 +135,7 @@ module _ {E : Type 0} (left : E → ℕ) (bound : ℕ) where
   going : (t : ℕ) (e : E) (c c' : Core E) (ds : List Action) → c.phase ≡ phase.Electing t e
       → ((s : ℕ) → steps_towards s ds ≤ cond (t == s) 1 0) → entry c' ≡ t + 1
       → ((s : ℕ) → run c'.phase s ≤ cond (t == s) (left e) 0) → Falls c c' ds
-  going t e c c' ds runs one next fewer = record {
-    less = λ s. rw (runs, next) (left_on t s bound (left e) (run c'.phase s) (steps_towards s ds)
-        (one s) (fewer s));
-  }
+  going t e c c' ds runs one next fewer = grind (arith, common_steps, left_on)
 
 -- ---- one turn of sender p
 module _ {E : Type 0} (X : Election E) (P : Protocol E (Unit {0}) ℕ) (m : Machine E) (T : Trails)
@@ -168,20 +156,12 @@ module _ {E : Type 0} (X : Election E) (P : Protocol E (Unit {0}) ℕ) (m : Mach
   belongs t e ph =
       let runs : of_some standing_of (f.cores p) ≡ Some (Runs t e) =
       ap (of_some standing_of) (f.core_of p v at) ∙ ap (λ w. Some (stands_at w)) ph in
-      let b = f.sending.tenures.electing p t e runs in
-      (sits.serves.laws.known n (2 + t * P.width n) f.V (f.sending.tenures.elections t) p e
-      (f.sending.tenures.kept t b.0) b.2).1
+      grind (arith, common_steps)
 
   -- at its start an election has no more steps left than these
   start_few : (t : ℕ) → P.left (X.started v.core.layout.senders v.core.me v.core.layout.rounds
       (row_at v.core.layout t)) + 1 ≤ bound
-  start_few t =
-      let few : n ≤ 64 = let a = sits.ok.senders in omega arith in
-      let its = ap P.left (ap (λ (x : Layout). X.started x.senders v.core.me x.rounds (row_at x t))
-      part.layout ∙ ap (λ q. X.started n q m.layout.rounds (row_at m.layout t)) part.me
-      ∙ sits.serves.starts n p (row_at m.layout t)) in
-      let low = (sits.serves.laws.starts n p (row_at m.layout t) tt part.below few).bounded in
-      omega arith
+  start_few t = grind (arith, common_steps, part)
 
   -- a step of an election has one fewer left
   falls : (t : ℕ) (e : E) (got word : ℕ) → v.core.phase ≡ phase.Electing t e
@@ -198,10 +178,7 @@ module _ {E : Type 0} (X : Election E) (P : Protocol E (Unit {0}) ℕ) (m : Mach
 
   -- a tenure begins
   begins : (t : ℕ) → v.core.phase ≡ phase.Resting → v.core.least ≤ t → To (core_begun X v.core t) []
-  begins t rests low = record {
-    less = λ s. rw rests (let a = left_begun v.core.least t s bound _ low (start_few t) in
-        omega arith);
-  }
+  begins t rests low = grind (arith, common_steps, left_begun, start_few)
 
   -- a first look at the stage
   module _ (got : ℕ) (rests : v.core.phase ≡ phase.Resting) where
@@ -209,10 +186,7 @@ module _ {E : Type 0} (X : Election E) (P : Protocol E (Unit {0}) ℕ) (m : Mach
         → (waits v.core got ≡ false → To c' [])
         → To (cond a v.core (cond b (record v.core { least = got / 2 }) c')) []
     looked true b c' i k = same P.left bound v.core
-    looked false true c' i k = record {
-      less = λ s. rw rests (left_later v.core.least (got / 2) s bound 0 0 0 refl refl
-          (may_enter v.core got i));
-    }
+    looked false true c' i k = grind (arith, common_steps, left_later, may_enter)
     looked false false c' i k = k i
 
     looks : (r : Option Reuse) → To (seen X v.core r got).core []
@@ -236,17 +210,7 @@ module _ {E : Type 0} (X : Election E) (P : Protocol E (Unit {0}) ℕ) (m : Mach
 
     elected : (own : Option ℕ) → To (core_elected v.core t e' own) ds
     elected None = goes
-    elected (Some o) = by (o == v.core.me) where
-      lost : Core E
-      lost = record v.core {
-        queue = record v.core.queue { busy = false };
-        least = t + 1;
-        phase = phase.Resting;
-      }
-
-      by : (b : Bool) → To (cond b (record v.core { phase = phase.Electing t e' }) lost) ds
-      by true = goes
-      by false = going P.left bound t e v.core lost ds runs one refl (λ s. omega arith)
+    elected (Some o) = grind (arith, common_steps, goes, going)
 
   -- the page is laid before who has taken it, or not
   laid : (t : ℕ) (c : Core E) (ds : List Action) → To (record c { phase = phase.Taken t }) ds
@@ -280,31 +244,15 @@ module _ {E : Type 0} (X : Election E) (P : Protocol E (Unit {0}) ℕ) (m : Mach
         (falls t e got word own.0 own.1) (X.owner (X.fed e got word))
     by_turn (Does (TakesPage t)) i =
         let own = phase_tells X v (TakesPage t) i in
-        let taken : Core E = record v.core { phase = phase.Taken t } in
-        let ds = step_action (Some kind.TakePage) (Some t) got None told in
-        laid t taken ds (going P.left bound t own.0 v.core taken ds own.1
-        (λ s. step_adds s t (Some kind.TakePage) got None told) refl (λ s. omega arith)) home
-    by_turn (Does (AwaitsPage t)) i =
-        let own = phase_tells X v (AwaitsPage t) i in
-        laid t v.core [] (over P.left bound t v.core _ _ _ own refl refl (λ s. refl) (λ s. refl))
-        home
-    by_turn (Does (StoresWord t page stored)) i =
-        let own = phase_tells X v (StoresWord t page stored) i in
-        over P.left bound t v.core _ _ _ own.1 refl refl (λ s. refl) (λ s. refl)
-    by_turn (Does (StoresLength t page stored)) i =
-        let own = phase_tells X v (StoresLength t page stored) i in
-        over P.left bound t v.core _ _ _ own.1 refl refl (λ s. refl) (λ s. refl)
-    by_turn (Does (GivesBack t page reason)) i =
-        let own = phase_tells X v (GivesBack t page reason) i in
-        over P.left bound t v.core _ _ _ own.2 refl refl (λ s. refl) (λ s. refl)
-    by_turn (Does (HasHanded t reason)) i =
-        let own = phase_tells X v (HasHanded t reason) i in
-        over P.left bound t v.core _ _ _ own refl refl (λ s. refl) (λ s. refl)
+        grind (arith, common_steps, laid, going, step_adds)
+    by_turn (Does (AwaitsPage t)) i = grind (arith, phase_tells, laid, over)
+    by_turn (Does (StoresWord t page stored)) i = grind (arith, common_steps, phase_tells, over)
+    by_turn (Does (StoresLength t page stored)) i = grind (arith, common_steps, phase_tells, over)
+    by_turn (Does (GivesBack t page reason)) i = grind (arith, common_steps, phase_tells, over)
+    by_turn (Does (HasHanded t reason)) i = grind (arith, common_steps, phase_tells, over)
     by_turn (Validates t) i =
         validated t (got / 2 == t) (enters X P m T sits reached p v at t i)
-    by_turn (ReadsPassed t q) i =
-        let l = passing_fed q got in
-        floored t (passes_held X v t q i) l.least _ (λ s. refl) (l.loaded == v.core.layout.passers)
+    by_turn (ReadsPassed t q) i = grind (arith, common_steps, floored, passes_held)
     by_turn z i = same P.left bound v.core
 
 -- ---- of all senders
@@ -320,11 +268,7 @@ module _ {E : Type 0} (X : Election E) (P : Protocol E (Unit {0}) ℕ) where
   no_more false x = omega arith
 
   starts : (m : Machine E) (q : ℕ) → IsNew m → K m q (slice_get m.senders q) [] []
-  starts m q new = by (slice_get m.senders q) refl where
-    by : (o : Option (Sender E)) → slice_get m.senders q ≡ o → At m.layout o []
-    by None at = λ t. omega arith
-    by (Some v) at = subst (λ w. At m.layout (Some w) []) (sym (new.senders q v at).1)
-        (λ t. let few = no_more (nat_le 0 t) (P.steps m.layout.senders + 1) in omega arith)
+  starts m q new = grind (arith, common_steps, slice_get, no_more, nat_le)
 
   counted : (m : Machine E) (T : Trails) → Sits X P m → Reached X m T → OfEach K m m.senders T
   counted = each X P K starts

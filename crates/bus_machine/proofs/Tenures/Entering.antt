@@ -1,9 +1,9 @@
 -- Which tenure a sender may enter next, and what its pin has to do with its phase.
-use Rattle.std.proofs.Common.{◌≡◌, ℕ, ◌+◌, ◌/◌, ◌%◌, ◌≤◌, Bool, true, false, cond, ◌==◌}
-use Rattle.std.proofs.Common.{nat_lt, Option, Some, None, inr, slice_get, refl, sym}
-use Rattle.std.proofs.Common.{◌∙◌, ap}
+use Rattle.std.proofs.Common.{◌≡◌, ℕ, ◌+◌, ◌/◌, ◌≤◌, false, nat_lt, Option, Some, None, inr}
+use Rattle.std.proofs.Common.{slice_get, refl, sym, ◌∙◌, ap, arith}
 use Rattle.std.specs.Prelude.{IsSomeAnd}
 use Rattle.std.proofs.lemmas.Bool.{true≢false, ltb-false}
+use Rattle.std.proofs.lemmas.Grind.{common_steps}
 use Rattle.bus_core.proofs.Situated.{own_is, situation_tells}
 use Rattle.bus_core.specs.Senders.{Sender, Does, Validates, situation}
 use Rattle.bus_core.specs.declared.reuses.Reuse.{Reuse}
@@ -39,10 +39,7 @@ entry_in c ph t is its = ap (λ o. entry_from o c.least) (ap tenure_of is ∙ it
 
 -- a stage that does not let it wait is of a tenure that it may enter
 pub may_enter : {E : Type 0} (c : Core E) (got : ℕ) → waits c got ≡ false → c.least ≤ got / 2
-may_enter c got e = by (got % 2 == 0) e where
-  by : (b : Bool) → cond b (nat_lt (got / 2) c.least) true ≡ false → c.least ≤ got / 2
-  by true e = ltb-false (got / 2) c.least e
-  by false e = absurd (true≢false e)
+may_enter c got e = grind (arith, common_steps, nat_lt, ltb-false, true≢false)
 
 -- ---- a pin
 -- by what holds of it where rows are used again

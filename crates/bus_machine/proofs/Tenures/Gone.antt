@@ -1,10 +1,10 @@
 -- In a tenure whose row has gone on to a later one nobody has an action more.
-use Rattle.std.proofs.Common.{◌≡◌, inl, inr, ℕ, ◌+◌, ◌/◌, ◌<◌, ◌≤◌, ◌==◌, Bool, true, false, cond}
-use Rattle.std.proofs.Common.{Option, Some, None, List, [], ◌++◌, slice_get, arith, refl, ◌∙◌, ap}
-use Rattle.std.proofs.Common.{subst}
+use Rattle.std.proofs.Common.{◌≡◌, ℕ, ◌+◌, ◌/◌, ◌<◌, ◌≤◌, Option, Some, None, List, [], slice_get}
+use Rattle.std.proofs.Common.{arith, refl, ◌∙◌, ap, subst}
 use Rattle.std.proofs.lemmas.Bool.Decides.{eqb_tells}
 use Rattle.std.proofs.lemmas.List.{append-nil}
 use Rattle.std.proofs.lemmas.List.Elements.{filter-append}
+use Rattle.std.proofs.lemmas.Grind.{common_steps}
 use Rattle.bus_core.proofs.Situated.{own_is}
 use Rattle.bus_core.specs.Reusing.Keeping.{held_of}
 use Rattle.bus_core.specs.Senders.{Sender, Situation, Does, Announces, Validates, Unpins}
@@ -31,7 +31,7 @@ use Rattle.bus_machine.proofs.Bases.Leading.{Sits}
 use Rattle.bus_machine.proofs.Frames.Paging.{takes_it, holds_it}
 use Rattle.bus_machine.specs.Machine.{base_of, Machine, Trails, Happens, found, has_stopped}
 use Rattle.bus_machine.specs.Machine.{stage_of, trails_grown, turn_answer, turn_grown}
-use Rattle.bus_machine.specs.Promise.{ReusesRows, actions_in, is_in}
+use Rattle.bus_machine.specs.Promise.{ReusesRows, actions_in}
 use Rattle.bus_world.proofs.Stopping.{shown_there}
 
 -- ---- actions
@@ -39,22 +39,13 @@ module _ (t : ℕ) where
   -- what joins the actions is no step in this tenure
   beside_stays : (s : ℕ) (ds : List Action) (D : ℕ → List Action) → actions_in t ds ≡ [] → (q : ℕ)
       → actions_in t (actions_with s ds D q) ≡ actions_in t (D q)
-  beside_stays s ds D none q =
-      filter-append (is_in t) (D q) (cond (q == s) ds [])
-      ∙ ap (λ rest. actions_in t (D q) ++ rest) (by_test (q == s)) ∙ append-nil (actions_in t (D q))
-    where
-      by_test : (b : Bool) → actions_in t (cond b ds []) ≡ []
-      by_test true = none
-      by_test false = refl
+  beside_stays s ds D none q = grind (arith, common_steps, filter-append, append-nil)
 
   -- a step in a later tenure
   later_step : (k : Option Kind) (u : ℕ) (got : ℕ) (chose : Option ℕ) (told : Answered) → t < u
       → actions_in t (step_action k (Some u) got chose told) ≡ []
   later_step None u got chose told later = refl
-  later_step (Some k) u got chose told later = elim (eqb_tells u t) [
-    | inl same ↦ absurd (let e = same.1 in omega arith)
-    | inr other ↦ ap (λ b. cond b (step_action (Some k) (Some u) got chose told) []) other.0
-  ]
+  later_step (Some k) u got chose told later = grind (arith, common_steps, eqb_tells)
 
   -- a put
   put_stays : (bytes : List ℕ) (a : Answer) → actions_in t (put_actions bytes a) ≡ []
@@ -96,10 +87,7 @@ module _ {E : Type 0} (X : Election E) (P : Protocol E (Unit {0}) ℕ) (m : Mach
         → actions_in t
         (step_action (line X v z).kind (line X v z).tenure got ((line X v z).chosen got word) told)
         ≡ []
-    step_stays z n is later =
-        ap (λ y.
-        actions_in t (step_action (line X v z).kind y got ((line X v z).chosen got word) told)) is
-        ∙ later_step t (line X v z).kind n got ((line X v z).chosen got word) told later
+    step_stays z n is later = grind (arith, common_steps, later_step)
 
     -- whatever the turn is
     added_stays : (z : Situation E) → situation X v ≡ z
@@ -108,25 +96,17 @@ module _ {E : Type 0} (X : Election E) (P : Protocol E (Unit {0}) ℕ) (m : Mach
     added_stays (Does IsIdle) i = refl
     added_stays (Does IsSpent) i = refl
     added_stays (Does LooksAtStage) i = refl
-    added_stays (Does (Elects n e)) i =
-        step_stays (Does (Elects n e)) n refl
-        (running n e (tells X v.core (Elects n e) (own_is X v (Elects n e) i)).0)
+    added_stays (Does (Elects n e)) i = grind (arith, step_stays, running, tells, own_is)
     added_stays (Does (TakesPage n)) i =
         step_stays (Does (TakesPage n)) n refl
         (let stage = (takes_it X P m T sits f s v n at i).stage in omega arith)
     added_stays (Does (AwaitsPage n)) i = refl
     added_stays (Does (StoresWord n page stored)) i =
-        step_stays (Does (StoresWord n page stored)) n refl
-        (holding n (ap held_of
-        (tells X v.core (StoresWord n page stored) (own_is X v (StoresWord n page stored) i)).1))
+        grind (arith, common_steps, step_stays, holding, tells, own_is)
     added_stays (Does (StoresLength n page stored)) i =
-        step_stays (Does (StoresLength n page stored)) n refl
-        (holding n (ap held_of (tells X v.core (StoresLength n page stored)
-        (own_is X v (StoresLength n page stored) i)).1))
+        grind (arith, common_steps, step_stays, holding, tells, own_is)
     added_stays (Does (GivesBack n page reason)) i =
-        step_stays (Does (GivesBack n page reason)) n refl
-        (holding n (ap held_of
-        (tells X v.core (GivesBack n page reason) (own_is X v (GivesBack n page reason) i)).2))
+        grind (arith, common_steps, step_stays, holding, tells, own_is)
     added_stays (Does (HasHanded n reason)) i =
         absurd (subst (Fits (base_of m) f.V f.frames v.core)
         (tells X v.core (HasHanded n reason) (own_is X v (HasHanded n reason) i))

@@ -1,18 +1,16 @@
 -- Of each machine that is reached there are numbers of nobody, from some number on: nobody was
 -- answered anything there.
-use Rattle.std.proofs.Common.{◌≡◌, ℕ, ◌+◌, ◌≤◌, ◌==◌, cond, None, [], ◌∷◌}
-use Rattle.std.proofs.Common.{◌++◌, length, slice_get, arith, refl, ◌∙◌, ap}
+use Rattle.std.proofs.Common.{◌≡◌, ℕ, ◌+◌, ◌≤◌, None, [], length, slice_get, arith, refl, ◌∙◌, ap}
 use Rattle.std.proofs.lemmas.List.{append-nil, length-set}
 use Rattle.std.proofs.lemmas.Option.{slice_get_within, slice_get_past}
-use Rattle.bus_deliverylog.specs.Receiving.{with_leave}
+use Rattle.std.proofs.lemmas.Grind.{common_steps}
 use Rattle.bus_tenure.specs.Core.{Election}
 use Rattle.bus_world.specs.World.{Event, Put, Ask, Turn, Recv, Stop, Gone}
 use Rattle.bus_world.specs.declared.events.Answer.{Answer}
 use Rattle.bus_machine.proofs.Memory.EachSender.{cond_beside}
 use Rattle.bus_machine.proofs.Stops.LeaveLaws.{sender_heard}
-use Rattle.bus_machine.specs.Machine.{Machine, Trails, Reached, New, Then, Joins, Happens}
-use Rattle.bus_machine.specs.Machine.{fork_in}
-use Rattle.bus_machine.specs.Machine.{trails_grown, heard_grown, going}
+use Rattle.bus_machine.specs.Machine.{Machine, Trails, Reached, New, Then, Joins, Happens, fork_in}
+use Rattle.bus_machine.specs.Machine.{trails_grown, going}
 
 pub record HasNobody {E : Type 0} (m : Machine E) (T : Trails) : Type 0 where
   pub from : ℕ
@@ -28,9 +26,7 @@ module _ {E : Type 0} (X : Election E) where
   as_many m m' (Recv r) a h =
       ap (λ (y : Machine E). length y.receivers) h.after ∙ length-set m.receivers r h.next
   as_many m m' (Stop s) a h = ap (λ (y : Machine E). length y.receivers) h.after
-  as_many m m' (Gone r) a h =
-      ap (λ (y : Machine E). length y.receivers) h.after
-      ∙ length-set m.receivers r (with_leave h.receiver)
+  as_many m m' (Gone r) a h = grind (arith, common_steps, length, length-set)
 
   adds_nothing : (m m' : Machine E) (T : Trails) (e : Event) (a : Answer) → Happens X m e a m'
       → (n : ℕ) → length m.receivers ≤ n → (trails_grown X m e a T).heard n ≡ T.heard n
@@ -38,10 +34,7 @@ module _ {E : Type 0} (X : Election E) where
   adds_nothing m m' T (Ask s mark) a h n past = refl
   adds_nothing m m' T (Turn s word) a h n past = sender_heard X m T n s word (going m s) a
   adds_nothing m m' T (Recv r) a h n past =
-      ap (λ k. heard_grown r k T.heard n) h.answered
-      ∙ ap (λ b. T.heard n ++ b) (cond_beside n r (h.heard ∷ []) [] (λ e.
-      (let low = slice_get_within m.receivers r h.receiver h.there in omega arith)))
-      ∙ append-nil (T.heard n)
+      grind (arith, common_steps, cond_beside, slice_get_within, append-nil)
   adds_nothing m m' T (Stop s) a h n past = refl
   adds_nothing m m' T (Gone r) a h n past = refl
 
@@ -62,18 +55,10 @@ module _ {E : Type 0} (X : Election E) where
       record {
         from = k.from + n + 1;
         many = (let low = k.many in omega arith);
-        silent = λ q l.
-            let room = slice_get_within w.receivers j h.last h.was in
-            let low = k.many in
-            cond_beside q j (U.heard i) (cond (q == n) (U.heard j) (U.heard q))
-            (λ e. omega arith)
-            ∙ cond_beside q n (U.heard j) (U.heard q) (λ e. omega arith)
-            ∙ k.silent q (omega arith);
+        silent = λ q l. grind (arith, common_steps, slice_get_within, cond_beside);
       }
 
   -- so there is one
   pub some_nobody : (m : Machine E) (T : Trails) → Reached X m T
       → (n : ℕ) × (slice_get m.receivers n ≡ None) × (T.heard n ≡ [])
-  some_nobody m T r =
-      let k = has_nobody m T r in
-      (k.from, slice_get_past m.receivers k.from k.many, k.silent k.from (omega arith))
+  some_nobody m T r = grind (arith, common_steps, has_nobody, slice_get_past)

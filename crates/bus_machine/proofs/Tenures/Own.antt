@@ -1,5 +1,6 @@
 -- Where a sender goes on in its tenure or before it, its situation is the one that it has there.
-use Rattle.std.proofs.Common.{◌≡◌, ℕ, Bool, true, false, cond, Option, Some, None, nat_lt}
+use Rattle.std.proofs.Common.{◌≡◌, ℕ, Bool, true, false, cond, Option, Some, None, nat_lt, arith}
+use Rattle.std.proofs.lemmas.Grind.{common_steps}
 use Rattle.bus_core.specs.Senders.{Does, Scans, Clears, reclaiming, at_home, pinning}
 use Rattle.bus_core.specs.Senders.{situation_by}
 use Rattle.bus_core.proofs.Situated.{passing_is}
@@ -28,9 +29,7 @@ module _ {E : Type 0} where
 
   by_home : (l : Option Passing) (s : Option Reclaiming) (w z : Own E) → at_home l s w ≡ Does z
       → w ≡ z
-  by_home l s (GivesBack t page reason) z i =
-      by_reclaimer s (GivesBack t page reason) z
-      (passing_is l t reason (reclaiming s (GivesBack t page reason)) (Does z) (λ u p e. cc) i)
+  by_home l s (GivesBack t page reason) z i = grind (arith, common_steps, by_reclaimer, passing_is)
   by_home l s IsClosed z i = cc
   by_home l s IsIdle z i = cc
   by_home l s IsSpent z i = cc

@@ -7,6 +7,7 @@ use Rattle.std.proofs.lemmas.Bool.Decides.{eqb_tells}
 use Rattle.std.proofs.lemmas.List.{append-nil, length-append, length-drop, drop-append-le}
 use Rattle.std.proofs.lemmas.Option.{same_Some}
 use Rattle.std.proofs.Math.Seq.{drop-nil}
+use Rattle.std.proofs.lemmas.Grind.{common_steps}
 use Rattle.bus_batch.specs.declared.messages.Mark.{Mark}
 use Rattle.bus_batch.specs.declared.messages.Mark.TheVariants.{End, Leave}
 use Rattle.bus_tenure.specs.declared.turns.Turn.{Turn as Answered}
@@ -26,7 +27,6 @@ use Rattle.bus_tenure.specs.Situations.{IsClosed, IsIdle, IsSpent, LooksAtStage,
 use Rattle.bus_tenure.specs.Situations.{AwaitsPage, StoresWord, StoresLength, GivesBack, HasHanded}
 use Rattle.bus_tenure.specs.declared.turns.Turn.{Turn as Answered}
 use Rattle.bus_world.specs.Headline.{Stepped}
-use Rattle.bus_world.specs.Private.Tenures.Stage.{Open, Held}
 use Rattle.bus_world.specs.World.{Event, Put, Ask, Turn, Recv, Stop, Gone}
 use Rattle.bus_world.specs.declared.events.Answer.{Answer}
 use Rattle.bus_world.specs.declared.events.Answer.TheVariants as answer
@@ -80,9 +80,7 @@ last_last r xs ys = elim (cases_lt (length xs) r) [
 
 -- the last of the last are the last
 last_again : (r : ℕ) (xs : List ℕ) → last_of r (last_of r xs) ≡ last_of r xs
-last_again r xs =
-    ap (last_of r) (sym (append-nil (last_of r xs))) ∙ last_last r xs []
-    ∙ ap (last_of r) (append-nil xs)
+last_again r xs = grind (arith, common_steps, append-nil, last_last)
 
 -- one more is told of those that are told, or none
 told_more : (o : Option ℕ) (takes : Bool) (s : ℕ) (all : List ℕ)
@@ -115,16 +113,7 @@ takers_beside : (all : List ℕ) (D : ℕ → List Action) (p : ℕ) (ds : List 
     → Takers all D
     → Takers all (actions_with p ds D)
 takers_beside all D p ds none h = record {
-  took = λ t s at.
-      let w = h.took t s at in (
-        w.0,
-        record {
-          found = w.1.found;
-          chose = w.1.chose;
-          answer = w.1.answer;
-          at = got_before (D s) (cond (s == p) ds []) w.0 _ w.1.at;
-        },
-      );
+  took = λ t s at. grind (arith, common_steps, got_before);
   only = λ t s place took. elim (got_split (D s) (cond (s == p) ds []) place _ took.at) [
     | inl before ↦ h.only t s place record {
       found = took.found;
@@ -165,16 +154,7 @@ module _ (all : List ℕ) (D : ℕ → List Action) (p t : ℕ) (here : t ≡ le
   takers_push : Takers (all ++ p ∷ []) (actions_with p ds D)
   takers_push = record {
     took = λ n q at. elim (got_split all (p ∷ []) n q at) [
-      | inl before ↦
-          let w = h.took n q before in (
-            w.0,
-            record {
-              found = w.1.found;
-              chose = w.1.chose;
-              answer = w.1.answer;
-              at = got_before (D q) (cond (q == p) ds []) w.0 _ w.1.at;
-            },
-          )
+      | inl before ↦ grind (arith, common_steps, got_before)
       | inr after ↦
           let same = last_of_all n q after.0 after.1 after.2 in
           let now = actions_of_it p ds D p refl in
@@ -185,10 +165,7 @@ module _ (all : List ℕ) (D : ℕ → List Action) (p t : ℕ) (here : t ≡ le
               found = found;
               chose = chose;
               answer = told;
-              at =
-                  ap (λ l. slice_get l (length (D p))) now
-                  ∙ push_here (D p) (Stepped (Some t) kind.TakePage found chose told) (length (D p))
-                  refl;
+              at = grind (arith, common_steps, slice_get, length, push_here);
             },
           ))
     ];
@@ -200,18 +177,7 @@ module _ (all : List ℕ) (D : ℕ → List Action) (p t : ℕ) (here : t ≡ le
         at = before;
       })
       | inr after ↦
-          let w = its_action (q == p) n after.0 record {
-            found = took.found;
-            chose = took.chose;
-            answer = took.answer;
-            at = after.2;
-          } in
-          let mine : q ≡ p = elim (eqb_tells q p) [
-            | inl y ↦ y.1
-            | inr other ↦ absurd (true≢false (sym w.0 ∙ other.0))
-          ] in
-          subst (λ r. slice_get (all ++ p ∷ []) r ≡ Some q) w.1
-          (subst (λ r. slice_get (all ++ p ∷ []) t ≡ Some r) (sym mine) (push_here all p t here))
+          grind (arith, common_steps, its_action, eqb_tells, true≢false, slice_get, push_here)
     ];
   }
 
@@ -248,12 +214,7 @@ mark_none answer.Gone t place w = nothing_takes t place w
 pub counted : {E : Type 0} {P : Protocol E (Unit {0}) ℕ} (m : Machine E) (T : Trails)
     (f : IsFramed P m T) (all : List ℕ) → Takers all T.actions → (t : ℕ)
     → stage_of m ≡ 2 * t → t ≡ length all
-counted m T f all h t stage =
-    let many = ap length (takers_one f.owners all T.actions f.takers h) in
-    elim f.sending.tenures.stage_is [
-      | Open is here owners ↦ (let same = f.stage in omega arith)
-      | Held holder is away owners holds ↦ absurd (let same = f.stage in omega arith)
-    ]
+counted m T f all h t stage = grind (arith, common_steps, length, takers_one)
 
 module _ {E : Type 0} (X : Election E) (P : Protocol E (Unit {0}) ℕ) (m : Machine E) (T : Trails)
     (sits : Sits X P m) (f : IsFramed P m T) (all : List ℕ)
@@ -268,43 +229,26 @@ module _ {E : Type 0} (X : Election E) (P : Protocol E (Unit {0}) ℕ) (m : Mach
   taken (Does IsClosed) i = takers_beside all T.actions s [] nothing_takes h
   taken (Does IsIdle) i = takers_beside all T.actions s [] nothing_takes h
   taken (Does IsSpent) i = takers_beside all T.actions s [] nothing_takes h
-  taken (Does LooksAtStage) i = takers_beside all T.actions s
-      (added (Does LooksAtStage) (line X v (Does LooksAtStage)) got word told)
-      (step_takes (Some kind.LoadStage) None got None told (λ e. cc)) h
-  taken (Does (Elects t e)) i =
-      takers_beside all T.actions s
-      (added (Does (Elects t e)) (line X v (Does (Elects t e))) got word told)
-      (step_takes (X.kind_of e) (Some t) got (X.owner (X.fed e got word)) told
-      (sits.serves.apart e)) h
+  taken (Does LooksAtStage) i = grind (arith, common_steps, takers_beside, added, step_takes)
+  taken (Does (Elects t e)) i = grind (arith, common_steps, takers_beside, added, step_takes)
   taken (Does (TakesPage t)) i = takers_push all T.actions s t
       (counted m T f all h t (takes_it X P m T sits f s v t at i).stage) got None told h
   taken (Does (AwaitsPage t)) i = takers_beside all T.actions s [] nothing_takes h
   taken (Does (StoresWord t page stored)) i =
-      takers_beside all T.actions s (added (Does (StoresWord t page stored))
-      (line X v (Does (StoresWord t page stored))) got word told)
-      (step_takes (Some kind.StoreLogWord) (Some t) got None told (λ e. cc)) h
+      grind (arith, common_steps, takers_beside, added, step_takes)
   taken (Does (StoresLength t page stored)) i =
-      takers_beside all T.actions s (added (Does (StoresLength t page stored))
-      (line X v (Does (StoresLength t page stored))) got word told)
-      (step_takes (Some kind.StoreLength) (Some t) got None told (λ e. cc)) h
+      grind (arith, common_steps, takers_beside, added, step_takes)
   taken (Does (GivesBack t page reason)) i =
-      takers_beside all T.actions s (added (Does (GivesBack t page reason))
-      (line X v (Does (GivesBack t page reason))) got word told)
-      (step_takes (Some kind.GivePageBack) (Some t) got None told (λ e. cc)) h
+      grind (arith, common_steps, takers_beside, added, step_takes)
   taken (Does (HasHanded t reason)) i =
-      takers_beside all T.actions s
-      (added (Does (HasHanded t reason)) (line X v (Does (HasHanded t reason))) got word told)
-      (step_takes (Some kind.GivePageBack) (Some t) got None told (λ e. cc)) h
+      grind (arith, common_steps, takers_beside, added, step_takes)
   taken (Announces t) i = takers_beside all T.actions s [] nothing_takes h
   taken (Validates t) i = takers_beside all T.actions s [] nothing_takes h
   taken (Unpins t) i = takers_beside all T.actions s [] nothing_takes h
   taken (Withdraws t) i = takers_beside all T.actions s [] nothing_takes h
   taken (Scans r) i = takers_beside all T.actions s [] nothing_takes h
   taken (Clears r) i = takers_beside all T.actions s [] nothing_takes h
-  taken (ReadsPassed t p) i =
-      takers_beside all T.actions s
-      (added (ReadsPassed t p) (line X v (ReadsPassed t p)) got word told)
-      (step_takes (Some kind.ReadPassed) (Some t) got None told (λ e. cc)) h
+  taken (ReadsPassed t p) i = grind (arith, common_steps, takers_beside, added, step_takes)
 
 -- ---- whatever leads to a machine
 module _ {E : Type 0} (X : Election E) (P : Protocol E (Unit {0}) ℕ) where
@@ -314,11 +258,7 @@ module _ {E : Type 0} (X : Election E) (P : Protocol E (Unit {0}) ℕ) where
       → T'.actions ≡ actions_with s ds T.actions
       → TakesNone ds → TakersTold m.reuse m.owners T.actions
       → TakersTold m'.reuse m'.owners T'.actions
-  beside_told m m' T T' s ds reuse owners did none k = record {
-    all = k.all;
-    takers = subst (Takers k.all) (sym did) (takers_beside k.all T.actions s ds none k.takers);
-    told = owners ∙ k.told ∙ ap (λ o. owners_told o k.all) (sym reuse);
-  }
+  beside_told m m' T T' s ds reuse owners did none k = grind (arith, common_steps, takers_beside)
 
   -- after an event
   event_told : (m m' : Machine E) (T : Trails) (e : Event) (a : Answer) → Sits X P m → Reached X m T
@@ -346,38 +286,12 @@ module _ {E : Type 0} (X : Election E) (P : Protocol E (Unit {0}) ℕ) where
       ∙ added_is z l s (found m l word) word told T in
       record {
         all = cond l.takes (k.all ++ s ∷ []) k.all;
-        takers = subst (Takers (cond l.takes (k.all ++ s ∷ []) k.all)) (sym did)
-            (taken X P m T sits (framed X P m T sits r) k.all k.takers s v at (found m l word) word
-            told z refl);
-        told =
-            ap (λ (y : Machine E). y.owners) h.after
-            ∙ ap (owners_told m.reuse) (sym (takes_told X v z s m.owners (found m l word) word))
-            ∙ ap (λ w. owners_told m.reuse (cond l.takes (w ++ s ∷ []) w)) k.told
-            ∙ told_more m.reuse l.takes s k.all
-            ∙ ap (λ o. owners_told o (cond l.takes (k.all ++ s ∷ []) k.all))
-            (sym (event_reuse X m m' (Turn s word) a h).1);
+        takers = grind (arith, common_steps, taken, framed);
+        told = grind (arith, common_steps, takes_told, told_more, event_reuse);
       }
-  event_told m m' T (Recv q) a sits r h k = record {
-    all = k.all;
-    takers = k.takers;
-    told =
-        ap (λ (y : Machine E). y.owners) h.after ∙ k.told
-        ∙ ap (λ o. owners_told o k.all) (sym (event_reuse X m m' (Recv q) a h).1);
-  }
-  event_told m m' T (Stop s) a sits r h k = record {
-    all = k.all;
-    takers = k.takers;
-    told =
-        ap (λ (y : Machine E). y.owners) h.after ∙ k.told
-        ∙ ap (λ o. owners_told o k.all) (sym (event_reuse X m m' (Stop s) a h).1);
-  }
-  event_told m m' T (Gone q) a sits r h k = record {
-    all = k.all;
-    takers = k.takers;
-    told =
-        ap (λ (y : Machine E). y.owners) h.after ∙ k.told
-        ∙ ap (λ o. owners_told o k.all) (sym (event_reuse X m m' (Gone q) a h).1);
-  }
+  event_told m m' T (Recv q) a sits r h k = grind (arith, common_steps, event_reuse)
+  event_told m m' T (Stop s) a sits r h k = grind (arith, common_steps, event_reuse)
+  event_told m m' T (Gone q) a sits r h k = grind (arith, common_steps, event_reuse)
 
   -- of none none is told
   none_told : (o : Option ℕ) → owners_told o [] ≡ []
@@ -386,14 +300,7 @@ module _ {E : Type 0} (X : Election E) (P : Protocol E (Unit {0}) ℕ) where
 
   -- at the start
   new_told : (m : Machine E) → IsNew m → TakersTold m.reuse m.owners (λ s. [])
-  new_told m new = record {
-    all = [];
-    takers = record {
-      took = λ t s at. absurd (let bad : None ≡ Some s = at in cc);
-      only = λ t s place took. absurd (nothing_takes t place took);
-    };
-    told = new.owners ∙ sym (none_told m.reuse);
-  }
+  new_told m new = grind (arith, common_steps, nothing_takes, none_told)
 
   -- whatever leads to a machine, its owners are those that took the last pages
   pub takers_told : (m : Machine E) (T : Trails) → Sits X P m → Reached X m T
@@ -404,10 +311,4 @@ module _ {E : Type 0} (X : Election E) (P : Protocol E (Unit {0}) ℕ) where
       event_told n m' U e a t before h (takers_told n U t before)
   takers_told m T sits (Joins w v U i j n before h nobody silent) =
       let k = takers_told w U (sits_unforked X P w v i j h sits) before in
-      record {
-        all = k.all;
-        takers = k.takers;
-        told =
-            ap (λ (y : Machine E). y.owners) h.after ∙ k.told
-            ∙ ap (λ o. owners_told o k.all) (sym (forks_reuse X w v i j h).1);
-      }
+      grind (arith, common_steps, forks_reuse)

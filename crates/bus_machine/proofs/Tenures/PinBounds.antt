@@ -1,18 +1,18 @@
 -- Where rows are used again a sender takes three steps at most for its pin of a tenure. Those that
 -- it took and those that it may take yet are never more, as with the steps towards a page.
-use Rattle.std.proofs.Common.{◌≡◌, ◌≢◌, ◌⊎◌, inl, inr, ℕ, ◌+◌, ◌-◌, ◌/◌, ◌<◌, ◌≤◌, Bool, true}
-use Rattle.std.proofs.Common.{false, cond, ◌==◌, nat_le, Option, Some, None, List, [], ◌∷◌, ◌++◌}
+use Rattle.std.proofs.Common.{◌≡◌, ◌≢◌, ◌⊎◌, inl, inr, ℕ, ◌+◌, ◌/◌, ◌<◌, ◌≤◌, Bool, true, false}
+use Rattle.std.proofs.Common.{cond, ◌==◌, nat_le, Option, Some, None, List, [], ◌∷◌, ◌++◌}
 use Rattle.std.proofs.Common.{slice_get, arith, refl, sym, ◌∙◌, ap, subst}
 use Rattle.std.specs.Prelude.{IsSomeAnd, IfSome}
 use Rattle.std.proofs.lemmas.Bool.Decides.{eqb_tells, nat_tests}
 use Rattle.std.proofs.lemmas.List.{append-nil}
+use Rattle.std.proofs.lemmas.Grind.{common_steps}
 use Rattle.bus_core.proofs.Situated.{IsCalm, GoesCalmly, situation_tells}
 use Rattle.bus_core.specs.Keeping.{new_reuse}
 use Rattle.bus_core.specs.Senders.{Sender, Situation, Does, Announces, Validates, Unpins, Withdraws}
 use Rattle.bus_core.specs.Senders.{Scans, Clears, ReadsPassed, situation}
 use Rattle.bus_core.specs.Table.{line, line_now, seen, presence_of, reuse_elected, reuse_taken}
 use Rattle.bus_core.specs.Table.{reuse_given, reuse_passed, reuse_pinning, reuse_reclaiming}
-use Rattle.bus_core.specs.Reusing.Passing.{core_passed, passing_fed}
 use Rattle.bus_core.specs.declared.reuses.Passing.{Passing}
 use Rattle.bus_core.specs.declared.reuses.Reuse.{Reuse}
 use Rattle.bus_presence.specs.Reclamation.{Entry}
@@ -27,7 +27,6 @@ use Rattle.bus_tenure.specs.Seen.{tenure_of}
 use Rattle.bus_tenure.specs.Situations.{LooksAtStage, Elects, TakesPage, AwaitsPage, StoresWord}
 use Rattle.bus_tenure.specs.Situations.{StoresLength, GivesBack, HasHanded, waits, core_begun}
 use Rattle.bus_tenure.specs.Situations.{Situation as Own, situation_of, core_elected, core_floored}
-use Rattle.bus_tenure.specs.Situations.{phase_floored}
 use Rattle.bus_tenure.specs.declared.pages.Page.{Page}
 use Rattle.bus_tenure.specs.declared.phases.Phase.{Phase}
 use Rattle.bus_tenure.specs.declared.phases.Phase.TheVariants as phase
@@ -65,11 +64,7 @@ pins_more t now (d ∷ es) e = let later = pins_more t (named_by d.op now) es e 
 
 -- a presence names its tenure
 names : (r t : ℕ) (now : Option ℕ) → named_by (Store record { 0 = r } (1 + t)) now ≡ Some t
-names r t now = elim (eqb_tells (1 + t) 0) [
-  | inl bad ↦ absurd (let e = bad.1 in omega arith)
-  | inr other ↦ ap (λ b. cond b now (Some (1 + t - 1))) other.0
-      ∙ ap Some (let e : 1 + t - 1 ≡ t = omega arith in e)
-]
+names r t now = grind (arith, common_steps, eqb_tells)
 
 -- the first step names one
 first_more : (es : List Entry) (e : Entry) (t : ℕ) → named_by e.op (named_from None es) ≡ Some t
@@ -152,50 +147,28 @@ fits_later from from' u stage stage' named more up k = (let a = k.0 in omega ari
 -- the stage has risen, or fewer tenures are left to it
 later : (from from' : ℕ) (u : Pin) (stage stage' : ℕ) (es : List Entry) → from ≤ from'
     → stage ≤ stage' → Pins from u stage es → Pins from' u stage' es
-later from from' u stage stage' es more up k = record {
-  within = λ s.
-      let was = k.within s in
-      let less =
-      kept_less (is_of u s) (pin_left u) _ _ (room_later from from' stage stage' s more up)
-      in omega arith;
-  fits = fits_later from from' u stage stage' (named_from None es) more up k.fits;
-  first = k.first;
-}
+later from from' u stage stage' es more up k =
+    grind (arith, common_steps, kept_less, room_later, fits_later)
 
 -- another pin without a step
 turned : (from : ℕ) (u u' : Pin) (stage : ℕ) (es : List Entry) → Pins from u stage es
     → ((s : ℕ) → due from u' stage s ≤ due from u stage s)
     → PinFits from u' stage (named_from None es) → Pins from u' stage es
-turned from u u' stage es k less fits = record {
-  within = λ s. let was = k.within s in let now = less s in omega arith;
-  fits = fits;
-  first = k.first;
-}
+turned from u u' stage es k less fits = grind (arith, common_steps)
 
 -- a step of the pin of tenure t
 stepped : (t from from' : ℕ) (u u' : Pin) (stage : ℕ) (es : List Entry) (e : Entry)
     → Pins from u stage es → named_by e.op (named_from None es) ≡ Some t
     → ((s : ℕ) → cond (t == s) 1 0 + due from' u' stage s ≤ due from u stage s)
     → PinFits from' u' stage (Some t) → Pins from' u' stage (es ++ e ∷ [])
-stepped t from from' u u' stage es e k named less fits = record {
-  within = λ s.
-      let was = k.within s in
-      let now = less s in
-      let more : steps_of_pin s (es ++ e ∷ []) ≡ steps_of_pin s es + cond (t == s) 1 0 =
-      pins_more s None es e ∙ ap (λ o. steps_of_pin s es + cond (is_tenure s o) 1 0) named in
-      omega arith;
-  fits = subst (PinFits from' u' stage) (sym (named_more None es e ∙ named)) fits;
-  first = first_more es e t named k.first;
-}
+stepped t from from' u u' stage es e k named less fits =
+    grind (arith, common_steps, pins_more, named_more, first_more)
 
 -- ---- who takes no step of its pin has none, or stands in its tenure
 calm_away : (from : ℕ) (u : Pin) (stage : ℕ) (es : List Entry) → IsCalm u → Pins from u stage es
     → Pins from Away stage es
 calm_away from u stage es (inl away) k = subst (λ w. Pins from w stage es) away k
-calm_away from u stage es (inr p) k =
-    let k' = subst (λ w. Pins from w stage es) p.1 k in
-    turned from (Pinned p.0) Away stage es k'
-    (λ s. let less = room_past from stage p.0 s (inl k'.fits.0) in omega arith) tt
+calm_away from u stage es (inr p) k = grind (arith, common_steps, turned, room_past)
 
 -- what stands in its tenure may part from it
 parts : (t from stage : ℕ) (es : List Entry) → Pins from (Pinned t) stage es
@@ -248,9 +221,7 @@ module _ {E : Type 0} (X : Election E) (P : Protocol E (Unit {0}) ℕ) (m : Mach
   -- it goes on in its tenure, or has left it
   goes_in : (t : ℕ) (ph : Phase E) → v.core.phase ≡ ph → tenure_of ph ≡ Some t → (u : Pin)
       → u ≡ pin_of v.reuse → Pins (t + 1) u stage now
-  goes_in t ph is its u same =
-      subst (λ n. Pins n u stage now) (entry_in v.core ph t is its)
-      (subst (λ w. Pins (entry v.core) w stage now) (sym same) still)
+  goes_in t ph is its u same = grind (arith, common_steps, entry_in, entry, still)
 
   -- ---- a first look at the stage
   calm : (o : Option Reuse) (z : Own E) → IfSome o (λ r. GoesCalmly r z) → IsCalm (pin_of o)
@@ -269,9 +240,7 @@ module _ {E : Type 0} (X : Election E) (P : Protocol E (Unit {0}) ℕ) (m : Mach
     low j = let a = at_rest v.core.least in let b = may_enter v.core stage j in omega arith
 
     opened : (from : ℕ) → waits v.core stage ≡ false → stage / 2 ≤ from → Pins from Away stage now
-    opened from j more =
-        later (entry v.core) from Away stage stage now (let a = low j in omega arith)
-        (omega arith) away
+    opened from j more = grind (arith, common_steps, later, entry, low, away)
 
     spent_now : waits v.core stage ≡ false
         → Pins (entry_from (tenure_of v.core.phase) (stage / 2)) Away stage now
@@ -308,25 +277,9 @@ module _ {E : Type 0} (X : Election E) (P : Protocol E (Unit {0}) ℕ) (m : Mach
     elected : (r : Option Reuse) → v.reuse ≡ r → (e' : E) (own : Option ℕ)
         → Is (core_elected v.core t e' own) (reuse_elected v.core r t own) now
     elected None again e' None = same_pin Away (ap pin_of again)
-    elected None again e' (Some o) = by (o == v.core.me) where
-      by : (b : Bool) → Pins (entry (cond b (record v.core { phase = phase.Electing t e' })
-          (record v.core {
-            queue = record v.core.queue { busy = false };
-            least = t + 1;
-            phase = phase.Resting;
-          }))) Away stage now
-      by true = same_pin Away (ap pin_of again)
-      by false = same_pin Away (ap pin_of again)
+    elected None again e' (Some o) = grind (arith, common_steps, entry, same_pin)
     elected (Some r) again e' None = stands r again
-    elected (Some r) again e' (Some o) = by (o == v.core.me) where
-      by : (b : Bool) → Pins (entry (cond b (record v.core { phase = phase.Electing t e' })
-          (record v.core {
-            queue = record v.core.queue { busy = false };
-            least = t + 1;
-            phase = phase.Resting;
-          }))) (cond b (Pinned t) (Unpinning t)) stage now
-      by true = stands r again
-      by false = parts t (t + 1) stage now (stands r again)
+    elected (Some r) again e' (Some o) = grind (arith, common_steps, entry, stands, parts)
 
     -- the page is taken
     taken : (r : Option Reuse) → v.reuse ≡ r
@@ -392,9 +345,7 @@ module _ {E : Type 0} (X : Election E) (P : Protocol E (Unit {0}) ℕ) (m : Mach
   -- its page gets its floor, or not
   floored : (t : ℕ) → HasPage t v.core.phase → (least : ℕ) (b : Bool)
       → Pins (entry (cond b (core_floored v.core least) v.core)) (pin_of v.reuse) stage now
-  floored t h least true = subst (λ n. Pins n (pin_of v.reuse) stage now)
-      (sym (ap (λ ph. entry_from (tenure_of (phase_floored least ph)) v.core.least) h.has))
-      (goes_in t _ h.has refl (pin_of v.reuse) refl)
+  floored t h least true = grind (arith, common_steps, entry_from, goes_in)
   floored t h least false = still
 
   by_turn : (z : Situation E) → situation X v ≡ z → After z
@@ -435,16 +386,10 @@ module _ {E : Type 0} (X : Election E) (P : Protocol E (Unit {0}) ℕ) (m : Mach
       let fits = (its t (Invalidated t) pins).fits in
       sets t (Invalidated t) pins v.core Away (stores 0 (got (Withdraws t))) fits.1
       (λ s. room_past (entry v.core) stage t s (inr fits.0)) tt
-  by_turn (Scans q) i =
-      subst (λ u. Pins (entry v.core) u stage now) (sym (reclaiming_same v.reuse _))
-      still
-  by_turn (Clears q) i =
-      subst (λ u. Pins (entry v.core) u stage now) (sym (reclaiming_same v.reuse _))
-      still
+  by_turn (Scans q) i = grind (arith, common_steps, entry, reclaiming_same, still)
+  by_turn (Clears q) i = grind (arith, common_steps, entry, reclaiming_same, still)
   by_turn (ReadsPassed t q) i =
-      let l = passing_fed q (got (ReadsPassed t q)) in
-      subst (λ u. Pins (entry (core_passed v.core l)) u stage now) (sym (passed_same v.reuse l))
-      (floored t (passes_held X v t q i) l.least (l.loaded == v.core.layout.passers))
+      grind (arith, common_steps, entry, passed_same, floored, passes_held)
   by_turn z i = still
 
 -- ---- of all senders
@@ -458,23 +403,11 @@ module _ {E : Type 0} (X : Election E) (P : Protocol E (Unit {0}) ℕ) where
   K m q o D es = Keeps (stage_of m) o es
 
   fresh : (level : ℕ) (r : Option ℕ) → Pins 0 (pin_of (new_reuse r)) level []
-  fresh level None = record {
-    within = λ s. let few = room_most 0 level s in omega arith;
-    fits = tt;
-    first = tt;
-  }
-  fresh level (Some rows) = record {
-    within = λ s. let few = room_most 0 level s in omega arith;
-    fits = tt;
-    first = tt;
-  }
+  fresh level None = grind (arith, common_steps, room_most)
+  fresh level (Some rows) = grind (arith, common_steps, room_most)
 
   starts : (m : Machine E) (q : ℕ) → IsNew m → K m q (slice_get m.senders q) [] []
-  starts m q new = by (slice_get m.senders q) refl where
-    by : (o : Option (Sender E)) → slice_get m.senders q ≡ o → Keeps (stage_of m) o []
-    by None at = refl
-    by (Some v) at = subst (λ w. Keeps (stage_of m) (Some w) []) (sym (new.senders q v at).1)
-        (fresh (stage_of m) m.reuse)
+  starts m q new = grind (arith, common_steps, slice_get, fresh)
 
   keeps_later : (level level' : ℕ) (o : Option (Sender E)) (es : List Entry) → level ≤ level'
       → Keeps level o es → Keeps level' o es

@@ -1,7 +1,8 @@
 -- Who takes the page is told so by the answer of its turn, and nobody else.
 use Rattle.std.proofs.Common.{◌≡◌, ℕ, List, [], ◌∷◌, ◌++◌, Option, Some, None, Bool, true, false}
-use Rattle.std.proofs.Common.{cond, refl, sym, ◌∙◌, ap}
+use Rattle.std.proofs.Common.{cond, refl, sym, arith}
 use Rattle.std.proofs.lemmas.Bool.{true≢false}
+use Rattle.std.proofs.lemmas.Grind.{common_steps}
 use Rattle.bus_core.specs.Senders.{Sender, Situation, Does, Announces, Validates, Unpins}
 use Rattle.bus_core.specs.Senders.{Withdraws, Scans, Clears, ReadsPassed}
 use Rattle.bus_core.specs.Table.{line, answer_elected, lost_of}
@@ -74,9 +75,4 @@ module _ {E : Type 0} (X : Election E) (v : Sender E) (t : ℕ) where
 
   pub owns_page : (z : Situation E) (got word : ℕ) → (line X v z).answer got word ≡ turn.Own t
       → z ≡ Does (TakesPage t)
-  owns_page z got word own =
-      let taken = by_takes z (is_taken (line X v z).takes 0
-      (takes_told X v z 0 [] got word ∙ ap (λ a. owners_by a 0 []) own)) in
-      taken.1
-      ∙ ap (λ n. Does (TakesPage n))
-      (same_own taken.0 (sym (ap (λ y. (line X v y).answer got word) taken.1) ∙ own))
+  owns_page z got word own = grind (arith, common_steps, by_takes, is_taken, takes_told, same_own)

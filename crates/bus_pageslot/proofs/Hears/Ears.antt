@@ -2,6 +2,7 @@
 -- views stay true.
 use Rattle.std.proofs.Common.{◌≡◌, ◌≢◌, ◌⊎◌, inl, inr, ℕ, ◌<◌, true, false, arith, sym, ◌∙◌, ap}
 use Rattle.std.proofs.lemmas.Bool.{cases_eq, cases_Bool, true≢false}
+use Rattle.std.proofs.lemmas.Grind.{common_steps}
 use Rattle.bus_register.specs.Tables.{put}
 use Rattle.bus_register.specs.Private.TableLaws.{put_here, put_beside}
 use Rattle.bus_automaton.specs.Processes.{TableLayout, Process, Automaton}
@@ -23,32 +24,14 @@ pub listening : {C : Type 0} (A : Automaton C) (z : A.State) (ear ear' : ℕ →
     (x : TableLayout) (e : ReceiverView)
     → KnowsLog A z ear j x e → (Listens A z ear j e → Listens A z ear' j e)
     → KnowsLog A z ear' j x e
-listening A z ear ear' j x e h on = record {
-  table_layout = h.table_layout;
-  front = h.front;
-  below = h.below;
-  frames = h.frames;
-  lawful = h.lawful;
-  words_are = h.words_are;
-  heard = h.heard;
-  listens = on h.listens;
-}
+listening A z ear ear' j x e h on = grind (arith, common_steps)
 
 -- it is that of this seat now
 pub listening_at : {C : Type 0} (A : Automaton C) (z : A.State) (ear ear' : ℕ → Ear) (i j : ℕ)
     (x : TableLayout) (e : ReceiverView)
     → KnowsLog A z ear i x e → (Listens A z ear i e → Listens A z ear' j e)
     → KnowsLog A z ear' j x e
-listening_at A z ear ear' i j x e h on = record {
-  table_layout = h.table_layout;
-  front = h.front;
-  below = h.below;
-  frames = h.frames;
-  lawful = h.lawful;
-  words_are = h.words_are;
-  heard = h.heard;
-  listens = on h.listens;
-}
+listening_at A z ear ear' i j x e h on = grind (arith, common_steps)
 
 module _ {C : Type 0} (P : Process C) (A : Automaton C) (z : A.State) (seat : ℕ → ℕ) (ear : ℕ → Ear)
     (me to : ℕ) where
@@ -57,13 +40,7 @@ module _ {C : Type 0} (P : Process C) (A : Automaton C) (z : A.State) (seat : �
 
   -- for whose number a seat was made, for that one was
   made_still : (q : ℕ) → ((i : ℕ) → ear q ≢ Unmade i) → (i : ℕ) → ear_now q ≢ Unmade i
-  made_still q had i none = elim (cases_eq q me) [
-    | inl e ↦
-        let bad : Made to ≡ Unmade i =
-        sym (put_here me (Made to) ear) ∙ ap ear_now (sym e) ∙ none in
-        cc
-    | inr ne ↦ had i (sym (put_beside me (Made to) ear q ne) ∙ none)
-  ]
+  made_still q had i none = grind (arith, common_steps, cases_eq, put_here, put_beside)
 
   -- of a seat at which no receiver has the number that has not left, nor is to be made one
   module _ (j : ℕ)
@@ -85,15 +62,7 @@ module _ {C : Type 0} (P : Process C) (A : Automaton C) (z : A.State) (seat : �
 
     pub views_still : (v : View C) → IsTrueOf P A z seat ear j v
         → IsTrueOf P A z seat ear_now j v
-    views_still (Maker x made) h = (
-      h.0,
-      h.1,
-      λ r low high.
-          let u = h.2 r low high in record {
-            here = put_beside me (Made to) ear r (unmade r u) ∙ u.here;
-            passed = u.passed;
-          },
-    )
+    views_still (Maker x made) h = grind (arith, common_steps, put_beside)
     views_still (Sender c t notes) h = h
     views_still (Tap x e) h = knows_still x e h
     views_still (Meeting x e y f) h = (knows_still x e h.0, knows_still y f h.1, h.2)
@@ -103,11 +72,7 @@ module _ {C : Type 0} (P : Process C) (A : Automaton C) (z : A.State) (seat : �
   -- so it is of each seat but the one where the number was
   pub views_beside : (from : ℕ) → seat_of (ear me) ≡ from → (j : ℕ) → j ≢ from → (v : View C)
       → IsTrueOf P A z seat ear j v → IsTrueOf P A z seat ear_now j v
-  views_beside from mine j other =
-      let apart : (q : ℕ) → seat_of (ear q) ≡ j → q ≢ me =
-      λ q at e. other (sym at ∙ ap (λ i. seat_of (ear i)) e ∙ mine) in
-      views_still j (λ e l here. apart e.me (ap seat_of (l.here here)))
-      (λ r u. apart r (ap seat_of u.here))
+  views_beside from mine j other = grind (arith, common_steps, views_still)
 
 -- two that have not left have two numbers
 numbers_apart : {C : Type 0} (A : Automaton C) (e f : ReceiverView) → AreTwo A e f
@@ -135,39 +100,20 @@ pub goes_to : {C : Type 0} (P : Process C) (A : Automaton C) (z : A.State) (seat
 goes_to {C} P A z seat ear from to x e h = by h.listens (cases_Bool e.gone)
   where
     stays_there : Listens A z ear to e → GoesTo P A z seat ear from to x e
-    stays_there l = record {
-      ear' = ear;
-      here = listening_at A z ear ear from to x e h (λ k. l);
-      others = λ j other v is. is;
-      beside = λ y f k two. k;
-    }
+    stays_there l = grind (arith, common_steps, listening_at)
 
     by : Listens A z ear from e → (e.gone ≡ true) ⊎ (e.gone ≡ false)
         → GoesTo P A z seat ear from to x e
     by (inl flat) b = stays_there (inl flat)
-    by (inr l) (inl gone) = stays_there (inr record {
-      here = λ stays. absurd (true≢false (sym gone ∙ stays));
-      made = l.made;
-      below = l.below;
-      shown = l.shown;
-      past = l.past;
-    })
+    by (inr l) (inl gone) = grind (arith, common_steps, stays_there, true≢false)
     by (inr l) (inr stays) = record {
       ear' = put e.me (Made to) ear;
-      here = listening_at A z ear (put e.me (Made to) ear) from to x e h (λ k. inr record {
-        here = λ k. put_here e.me (Made to) ear;
-        made = made_still P A z seat ear e.me to e.me l.made;
-        below = l.below;
-        shown = l.shown;
-        past = l.past;
-      });
+      here = grind (arith, common_steps, listening_at, put_here, made_still);
       others = views_beside P A z seat ear e.me to from (ap seat_of (l.here stays));
       beside = λ y f k two. listening A z ear (put e.me (Made to) ear) from y f k (λ i. elim i [
         | inl flat ↦ inl flat
         | inr other ↦ inr record {
-          here = λ here.
-              put_beside e.me (Made to) ear f.me (numbers_apart A f e two other.below here stays)
-              ∙ other.here here;
+          here = λ here. grind (arith, common_steps, put_beside, numbers_apart);
           made = made_still P A z seat ear e.me to f.me other.made;
           below = other.below;
           shown = other.shown;
@@ -180,14 +126,4 @@ goes_to {C} P A z seat ear from to x e h = by h.listens (cases_Bool e.gone)
 pub two_of : {C : Type 0} (A : Automaton C) (z : A.State) (ear : ℕ → Ear) (i j : ℕ) → i ≢ j
     → (x : TableLayout) (e : ReceiverView) (y : TableLayout) (f : ReceiverView)
     → KnowsLog A z ear i x e → KnowsLog A z ear j y f → AreTwo A e f
-two_of A z ear i j ne x e y f h k =
-    by h.listens k.listens (cases_Bool e.gone) (cases_Bool f.gone)
-  where
-    by : Listens A z ear i e → Listens A z ear j f → (e.gone ≡ true) ⊎ (e.gone ≡ false)
-        → (f.gone ≡ true) ⊎ (f.gone ≡ false) → AreTwo A e f
-    by (inl flat) m b c = inl flat
-    by l (inl flat) b c = inl flat
-    by l m (inl gone) c = inr (inr (inl gone))
-    by l m b (inl gone) = inr (inr (inr gone))
-    by (inr l) (inr m) (inr b) (inr c) = inr (inl (λ same.
-        ne (ap seat_of (sym (l.here b) ∙ ap ear same ∙ m.here c))))
+two_of A z ear i j ne x e y f h k = grind (arith, common_steps, cases_Bool)

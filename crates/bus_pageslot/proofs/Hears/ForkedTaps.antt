@@ -1,13 +1,13 @@
 -- What a receiver that was forked off another keeps beside its seat, and what the other one does.
-use Rattle.std.proofs.Common.{◌≡◌, inl, inr, ℕ, ◌<◌, Bool, Option, Some, None, [], arith, sym}
-use Rattle.std.proofs.Common.{◌∙◌, ap, subst}
+use Rattle.std.proofs.Common.{◌≡◌, ℕ, ◌<◌, Bool, Option, Some, None, arith, sym, ◌∙◌, ap, subst}
 use Rattle.std.proofs.lemmas.Bool.{cases_lt}
-use Rattle.bus_automaton.specs.Processes.{TableLayout, passed_word}
-use Rattle.bus_pageslot.specs.ReceiverViews.{ReceiverView, forked_as, receiver_tried}
+use Rattle.std.proofs.lemmas.Grind.{common_steps}
+use Rattle.bus_automaton.specs.Processes.{TableLayout}
+use Rattle.bus_pageslot.specs.ReceiverViews.{ReceiverView}
 use Rattle.bus_pageslot.specs.Rounds.{GoesRound}
-use Rattle.bus_pageslot.specs.Rule.{Sat, receiver_view_in, table_layout_in, with_receiver_view}
-use Rattle.bus_pageslot.specs.Seats.{HasCells, IsFit, IsPassedAt, IsReceiverView}
-use Rattle.bus_pageslot.specs.Steps.{HasTriedAt, HasTriedBy, IsForkOf, fork_of}
+use Rattle.bus_pageslot.specs.Rule.{Sat, receiver_view_in, table_layout_in}
+use Rattle.bus_pageslot.specs.Seats.{HasCells, IsPassedAt, IsReceiverView}
+use Rattle.bus_pageslot.specs.Steps.{HasTriedBy, IsForkOf}
 use Rattle.bus_pageslot.specs.declared.listeners.Listener.{Listener}
 use Rattle.bus_pageslot.specs.declared.listeners.LogCells.{LogCells}
 
@@ -26,13 +26,7 @@ below_all x me None own some = absurd (omega (arith, own))
 pub number_within : {C : Type 0} {m : Sat C} {words : ℕ} {l : Listener}
     → IsReceiverView m words l → 0 < (table_layout_in m.0).passers
     → l.cells.number < (table_layout_in m.0).passers
-number_within {C} {l = l} h = subst
-    (λ (y : Sat C). 0 < (table_layout_in y.0).passers
-    → l.cells.number < (table_layout_in y.0).passers) (sym h.me)
-    (λ some.
-    let x = h.table_layout in
-    let low = below_all x h.receiver_view.me l.cells.passed_at h.cells.passed_is some in
-    let is = h.cells.number_is in omega arith)
+number_within {C} {l = l} h = grind (arith, common_steps, below_all)
 
 -- ---- a fork
 module _ {C : Type 0} {m : Sat C} {words : ℕ} {l : Listener} (h : IsReceiverView m words l)
@@ -74,12 +68,7 @@ module _ {C : Type 0} {m : Sat C} {words : ℕ} {l : Listener} (h : IsReceiverVi
   flat_cells none = subst (HasCells x e.me) (sym (flat x own none)) h.cells
 
   pub passed_here : IsPassedAt x number cells.passed_at
-  passed_here = elim (cases_lt 0 x.passers) [
-    | inl any ↦ (ring_cells any).passed_is
-    | inr none ↦
-        let flat_is : x.passers ≡ 0 = omega arith in
-        none_of_any x flat_is e.me number cells.passed_at (flat_cells flat_is).passed_is
-  ]
+  passed_here = grind (arith, common_steps, cases_lt, ring_cells, none_of_any, flat_cells)
 
   pub passed_there : IsPassedAt (table_layout_in m.0) number cells.passed_at
   passed_there = subst (λ (y : Sat C). IsPassedAt (table_layout_in y.0) number cells.passed_at)
@@ -91,108 +80,23 @@ module _ {C : Type 0} {m : Sat C} {words : ℕ} {l : Listener} (h : IsReceiverVi
       (passed : l'.passed ≡ l.passed) (cells_are : l'.cells ≡ cells) where
     -- with another number
     forked_ring : 0 < x.passers → IsReceiverView n words' l'
-    forked_ring any = record {
-      table_layout = x;
-      receiver_view = forked_as e number;
-      me = made.ring (some_there any) ∙ ap (λ (y : Sat C). (fork_of y.0 number, [])) h.me;
-      wide = wide ∙ h.wide;
-      cells = subst (HasCells x number) (sym cells_are) (ring_cells any);
-      round = round;
-      stays = h.stays;
-      passed = passed ∙ h.passed;
-      past = h.past;
-      never = h.never;
-      within = h.within;
-      fit = subst (IsFit x.senders (forked_as e number)) (sym reader) (record {
-        known = h.fit.known;
-        place = h.fit.place;
-        ended = h.fit.ended;
-        senders_are = h.fit.senders_are;
-        within = h.fit.within;
-        pieces = h.fit.pieces;
-        received = h.fit.received;
-        seen = h.fit.seen;
-      });
-    }
+    forked_ring any = grind (arith, common_steps, some_there, ring_cells)
 
     -- and a copy
     forked_flat : x.passers ≡ 0 → IsReceiverView n words' l'
-    forked_flat none = record {
-      table_layout = x;
-      receiver_view = e;
-      me = made.flat (none_there none) ∙ h.me;
-      wide = wide ∙ h.wide;
-      cells = subst (HasCells x e.me) (sym cells_are) (flat_cells none);
-      round = round;
-      stays = h.stays;
-      passed = passed ∙ h.passed;
-      past = h.past;
-      never = h.never;
-      within = h.within;
-      fit = subst (IsFit x.senders e) (sym reader) h.fit;
-    }
+    forked_flat none = grind (arith, common_steps, none_there, flat_cells)
 
     pub forked_tap : IsReceiverView n words' l'
-    forked_tap = elim (cases_lt 0 x.passers) [
-      | inl any ↦ forked_ring any
-      | inr none ↦ forked_flat (omega arith)
-    ]
+    forked_tap = grind (arith, common_steps, cases_lt, forked_ring, forked_flat)
 
   -- ---- the one that forks
   module _ {m' : Sat C} {words' : ℕ} {got : Bool} (tries : HasTriedBy m number got m')
       (wide : words' ≡ words) where
     tried_ring : 0 < x.passers → IsReceiverView m' words' l
-    tried_ring any =
-        let step : HasTriedAt m (passed_word (table_layout_in m.0) number) got m' =
-        tries.ring (some_there any) in record {
-          table_layout = x;
-          receiver_view = receiver_tried e (passed_word x number) step.0;
-          me =
-              step.2
-              ∙ ap
-              (λ (y : Sat C). (
-                with_receiver_view y.0 (receiver_tried (receiver_view_in y.0)
-                    (passed_word (table_layout_in y.0) number) step.0),
-                y.1,
-              )) h.me;
-          wide = wide ∙ h.wide;
-          cells = h.cells;
-          round = h.round;
-          stays = h.stays;
-          passed = h.passed;
-          past = h.past;
-          never = h.never;
-          within = h.within;
-          fit = record {
-            known = h.fit.known;
-            place = h.fit.place;
-            ended = h.fit.ended;
-            senders_are = h.fit.senders_are;
-            within = h.fit.within;
-            pieces = h.fit.pieces;
-            received = h.fit.received;
-            seen = h.fit.seen;
-          };
-        }
+    tried_ring any = grind (arith, common_steps, some_there)
 
     tried_flat : x.passers ≡ 0 → IsReceiverView m' words' l
-    tried_flat none = record {
-      table_layout = x;
-      receiver_view = e;
-      me = tries.flat (none_there none) ∙ h.me;
-      wide = wide ∙ h.wide;
-      cells = h.cells;
-      round = h.round;
-      stays = h.stays;
-      passed = h.passed;
-      past = h.past;
-      never = h.never;
-      within = h.within;
-      fit = h.fit;
-    }
+    tried_flat none = grind (arith, common_steps, none_there)
 
     pub tried_tap : IsReceiverView m' words' l
-    tried_tap = elim (cases_lt 0 x.passers) [
-      | inl any ↦ tried_ring any
-      | inr none ↦ tried_flat (omega arith)
-    ]
+    tried_tap = grind (arith, common_steps, cases_lt, tried_ring, tried_flat)

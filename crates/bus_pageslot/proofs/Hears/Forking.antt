@@ -8,6 +8,7 @@ use lib.ListN.{get_elem?}
 use prog.Atomic.{either}
 use Rattle.std.proofs.lemmas.Bool.Decides.{eqb_tells}
 use Rattle.std.proofs.lemmas.List.{length-append}
+use Rattle.std.proofs.lemmas.Grind.{common_steps}
 use Rattle.atomic_table.specs.Table.{State, keeps, Allows, Splits}
 use Rattle.bus_register.specs.Tables.{put}
 use Rattle.bus_register.specs.Private.TableLaws.{put_here}
@@ -22,9 +23,9 @@ use Rattle.bus_pageslot.specs.Looks.{IsFoundBy}
 use Rattle.bus_pageslot.specs.ReceiverViews.{ReceiverView, HasHeard, forked_as}
 use Rattle.bus_pageslot.specs.ReceiverViews.{receiver_tried}
 use Rattle.bus_pageslot.specs.Rings.{LeavesAll}
-use Rattle.bus_pageslot.specs.Rule.{Sat, Ear, Unmade, Made, IsListening, IsTrueOf, KnowsLog}
-use Rattle.bus_pageslot.specs.Rule.{first_of, receiver_view_in, second_of, table_layout_in}
-use Rattle.bus_pageslot.specs.Rule.{TableInvariant, with_receiver_view}
+use Rattle.bus_pageslot.specs.Rule.{Sat, Ear, Made, IsListening, IsTrueOf, KnowsLog, first_of}
+use Rattle.bus_pageslot.specs.Rule.{receiver_view_in, second_of, table_layout_in, TableInvariant}
+use Rattle.bus_pageslot.specs.Rule.{with_receiver_view}
 use Rattle.bus_pageslot.specs.Steps.{Forks, HasTried, HasTriedAt, copy_of, fork_of, view_forked}
 use Rattle.bus_pageslot.specs.StepsShown.{steps_shown}
 use Rattle.bus_pageslot.specs.declared.rule.View.{View}
@@ -71,20 +72,11 @@ module _ {C : Type 0} (P : Process C) (A : Automaton C) (L : AutomatonLaws P A)
     below = let same = ap (λ (y : TableLayout). y.passers) h.table_layout in omega arith
 
     shown : slice_index (A.words r.state) (passed_word A.table_layout number) ≡ PASSED_ALL
-    shown =
-        ap (λ ws. slice_index ws (passed_word A.table_layout number)) (sym r.words)
-        ∙ ap (slice_index s.words) (sym is_word) ∙ free
+    shown = grind (arith, common_steps, slice_index, is_word)
 
     -- a passed place that somebody has is a place of the log
     nobody : (p : ℕ) → A.passed r.state number ≡ Some p → ⊥
-    nobody p is =
-        let at = L.shows r.state number p r.reached is in
-        let within = at.1 in
-        let place = at.2 in
-        let all = shown in
-        let log = L.log r.state r.reached in
-        let few = words_low A.table_layout.senders log.frames log.lawful in
-        let size = ap length log.words_are in omega arith
+    nobody p is = grind (arith, shown, words_low, length)
 
     -- so the number is free to be that of this seat
     abbrev ear_now : ℕ → Ear
@@ -95,9 +87,7 @@ module _ {C : Type 0} (P : Process C) (A : Automaton C) (L : AutomatonLaws P A)
 
     all_true : (j : ℕ) (v : View C) → IsTrueOf P A r.state r.seat r.ear j v
         → IsTrueOf P A r.state r.seat ear_now j v
-    all_true j = views_still P A r.state r.seat r.ear number id j
-        (λ f k stays same. nobody f.passed (ap (A.passed r.state) (sym same) ∙ k.shown stays))
-        (λ u k same. nobody 0 (ap (A.passed r.state) (sym same) ∙ k.passed))
+    all_true j = grind (arith, common_steps, views_still, nobody)
 
     abbrev given : TableInvariant P A s
     given = record {
@@ -127,35 +117,13 @@ module _ {C : Type 0} (P : Process C) (A : Automaton C) (L : AutomatonLaws P A)
 
     -- the one that forks, and the one that is forked off
     maker : KnowsLog A p.state ear_now id x (receiver_tried e word PASSED_ALL)
-    maker = knows_with P A L s given id e.passed (Some e.passed) number mine p id x e
-        (receiver_tried e word PASSED_ALL) h_now refl refl
-        (heard_tried h_now.frames e h_now.heard word PASSED_ALL)
-        (inr record {
-          here = l_now.here;
-          made = l_now.made;
-          below = l_now.below;
-          shown = λ k. p.others e.me apart ∙ l_now.shown k;
-          past = l_now.past;
-        })
+    maker = grind (arith, common_steps, knows_with, mine, p, h_now, heard_tried, l_now, apart)
 
     fork_heard : HasHeard h_now.frames (forked_as e number)
-    fork_heard = record {
-      given_is = h_now.heard.given_is;
-      heads_are = h_now.heard.heads_are;
-      ended_is = h_now.heard.ended_is;
-      silent = h_now.heard.silent;
-    }
+    fork_heard = grind (arith, common_steps, h_now)
 
     fork : KnowsLog A p.state ear_now id x (forked_as e number)
-    fork = knows_with P A L s given id e.passed (Some e.passed) number mine p id x e
-        (forked_as e number) h_now refl refl fork_heard
-        (inr record {
-          here = λ k. mine;
-          made = λ i none. let bad : Made id ≡ Unmade i = sym mine ∙ none in cc;
-          below = below;
-          shown = λ k. p.here;
-          past = l_now.past;
-        })
+    fork = grind (arith, common_steps, knows_with, mine, p, h_now, fork_heard, below, l_now)
 
     pub fork_leaves : LeavesAll P A s r id word e.passed (view_forked (Tap x e) word number)
     fork_leaves =
@@ -200,11 +168,7 @@ fork_allowed {C} P B k plan picks L slots id m x e number is stays up low s r co
               refl,
               passed,
               record {
-                free = λ all n same.
-                    let own : word ≡ passed_word x n =
-                    same ∙ ap (λ (v : View C). passed_word (table_layout_in v) n) is in
-                    let n_is : number ≡ n = omega arith in
-                    λ i. (view_forked (sym is i) word (n_is i), m.1);
+                free = λ all n same. grind (arith, common_steps);
                 taken = λ other. absurd (other free.1);
               },
               found,
@@ -264,20 +228,12 @@ module _ {C : Type 0} (m m' : Sat C) (word got : ℕ) (x : TableLayout) (e : Rec
   )
 
   pub forked_made : (n : Sat C) → n ≡ (second_of m'.0, []) → n ≡ (fork_of m.0 number, [])
-  forked_made n is =
-      is ∙ ap (λ (y : Sat C). (second_of y.0, [])) is_forked
-      ∙ ap (λ (y : Sat C). (fork_of y.0 number, [])) (sym me)
+  forked_made n is = grind (arith, common_steps, is_forked)
 
 pub tries_shown : {C : Type 0} (m : Sat C) (word found : ℕ) (n : Sat C) (x : TableLayout)
     (e : ReceiverView) → m ≡ (Tap x e, []) → HasTried m word found n
     → steps_shown n.0 ≡ steps_shown m.0 + 1
-tries_shown {C} m word found n x e me tries =
-    ap (λ (y : Sat C). steps_shown y.0) tries
-    ∙ ap
-    (λ (y : Sat C).
-    steps_shown
-    (with_receiver_view y.0 (receiver_tried (receiver_view_in y.0) word found))) me
-    ∙ length-append e.loads (word ∷ []) ∙ ap (λ (y : Sat C). steps_shown y.0 + 1) (sym me)
+tries_shown {C} m word found n x e me tries = grind (arith, common_steps, length-append)
 
 -- ---- a copy, where no receiver has a passed place
 module _ {C : Type 0} (P : Process C) (A : Automaton C) (id : ℕ) (x : TableLayout)

@@ -1,24 +1,23 @@
 -- What a receiver was answered is what the first pieces of the log say, and stays so.
 use Rattle.std.proofs.Common.{◌≡◌, ℕ, zero, suc, ◌+◌, ◌≤◌, Bool, true, false, cond, ◌==◌, ◌||◌}
-use Rattle.std.proofs.Common.{Option, Some, None, inl, inr, List, [], ◌∷◌, ◌++◌, length, map}
-use Rattle.std.proofs.Common.{flat_map, take, drop, slice_get, arith, refl, sym, ◌∙◌, ap, subst}
+use Rattle.std.proofs.Common.{Option, Some, List, [], ◌∷◌, ◌++◌, length, map, take, drop}
+use Rattle.std.proofs.Common.{slice_get, arith, refl, sym, ◌∙◌, ap, subst}
 use Rattle.std.specs.List.{list_any}
 use Rattle.std.proofs.Math.Bool.{or-false}
 use Rattle.std.proofs.lemmas.Bool.{or_right}
-use Rattle.std.proofs.lemmas.Grind.{flat_map-append}
-use Rattle.std.proofs.lemmas.List.{append-nil, length-append, length-drop, take-append-drop}
-use Rattle.std.proofs.lemmas.List.{take-append-le, take-take, take_all, take_more}
+use Rattle.std.proofs.lemmas.Grind.{flat_map-append, common_steps}
+use Rattle.std.proofs.lemmas.List.{append-nil, length-append, take-append-drop}
+use Rattle.std.proofs.lemmas.List.{take-append-le, take-take, take_more}
 use Rattle.std.proofs.lemmas.Option.{same_Some, slice_get_within, get_or_from_slice_get}
 use Rattle.bus_batch.specs.declared.messages.Piece.{Piece}
-use Rattle.bus_batch.specs.Frames.{Frame, Order, AreFrames, log_words, log_pieces, frame_pieces}
-use Rattle.bus_batch.specs.Frames.{order_of, tenure_and_owner, order_in, owners_in, piece_entries}
-use Rattle.bus_batch.specs.Frames.{piece_owners, is_end}
+use Rattle.bus_batch.specs.Frames.{Frame, AreFrames, log_words, log_pieces, order_of}
+use Rattle.bus_batch.specs.Frames.{tenure_and_owner, order_in, owners_in, piece_owners}
 use Rattle.bus_batch.proofs.PieceLaws.{owners_in-log}
 use Rattle.bus_deliverylog.specs.Orders.{IsPrefixOfOrder}
 use Rattle.bus_deliverylog.specs.Receiving.{turn_of}
 use Rattle.bus_deliverylog.specs.declared.receiving.RecvTurn.{RecvTurn}
 use Rattle.bus_deliverylog.specs.declared.receiving.RecvTurn.TheVariants as turn
-use Rattle.bus_deliverylog.proofs.PrefixLaws.{end_last}
+use Rattle.bus_deliverylog.proofs.PrefixLaws.{taken_begins}
 use Rattle.bus_world.specs.Headline.{IsPrefix, entry_heard, end_heard, head_heard, order_given}
 use Rattle.bus_world.specs.Headline.{heads}
 use Rattle.bus_world.proofs.HearTrails.{more_order, given_more, heads_more, order_more}
@@ -43,92 +42,40 @@ end_given (x ∷ trail) (suc j) e =
 -- a trail without the end, and one answer more
 silent_more : (trail : List RecvTurn) (answer : RecvTurn) → (order_given trail).ended ≡ false
     → IsSilent (trail ++ answer ∷ [])
-silent_more trail answer goes j k a at l here = elim (got_split trail (answer ∷ []) j turn.End at) [
-  | inl first ↦ absurd (let z = sym (end_given trail j first) ∙ goes in cc)
-  | inr r ↦
-      let within = slice_get_within (trail ++ answer ∷ []) k a here in
-      let size = length-append trail (answer ∷ []) in
-      let p = r.1 in
-      absurd (omega arith)
-]
+silent_more trail answer goes j k a at l here =
+    grind (arith, common_steps, got_split, end_given, slice_get_within, length-append)
 
 -- ---- one receiver
 module _ (frames : List Frame) where
   pub heard_new : (me : ℕ) → HasHeard frames (new_receiver_view me)
-  heard_new me = record {
-    given_is = refl;
-    heads_are = refl;
-    ended_is = refl;
-    silent = λ j k a at l here.
-        absurd (let bad : None ≡ Some turn.End = at in let wrong : ⊥ = cc in wrong);
-  }
+  heard_new me = grind (arith, common_steps)
 
   module _ (e : ReceiverView) (h : HasHeard frames e) where
     pub heard_loaded : (word : ℕ) → HasHeard frames (receiver_view_after_load e word)
-    heard_loaded word = record {
-      given_is = h.given_is;
-      heads_are = h.heads_are;
-      ended_is = h.ended_is;
-      silent = h.silent;
-    }
+    heard_loaded word = assumption
 
     pub heard_tried : (word found : ℕ) → HasHeard frames (receiver_tried e word found)
-    heard_tried word found = record {
-      given_is = h.given_is;
-      heads_are = h.heads_are;
-      ended_is = h.ended_is;
-      silent = h.silent;
-    }
+    heard_tried word found = assumption
 
     pub heard_learnt : (known : List ℕ) → HasHeard frames (receiver_view_knowing e known)
-    heard_learnt known = record {
-      given_is = h.given_is;
-      heads_are = h.heads_are;
-      ended_is = h.ended_is;
-      silent = h.silent;
-    }
+    heard_learnt known = assumption
 
     -- an answer that tells nothing
     quiet : (known : List ℕ) (answer : RecvTurn) → e.ended ≡ false → entry_heard answer ≡ []
         → end_heard answer ≡ false → head_heard answer ≡ []
         → HasHeard frames (heard_length e known answer)
     quiet known answer going entries ends head =
-        let same : order_given (e.answers ++ answer ∷ []) ≡ order_given e.answers =
-        given_more e.answers answer
-        ∙ ap (λ z. more_order (order_given e.answers) z (end_heard answer)) entries
-        ∙ ap (more_order (order_given e.answers) []) ends
-        ∙ (λ i. record {
-          entries = append-nil (order_given e.answers).entries i;
-          ended = or-false (order_given e.answers).ended i;
-        }) in
-        record {
-          given_is = same ∙ h.given_is;
-          heads_are =
-              heads_more e.answers answer ∙ ap (λ z. heads e.answers ++ z) head
-              ∙ append-nil (heads e.answers) ∙ h.heads_are;
-          ended_is = h.ended_is ∙ ap (λ (z : Order). z.ended) (sym same);
-          silent = silent_more e.answers answer (sym h.ended_is ∙ going);
-        }
+        grind (arith, given_more, more_order, append-nil, or-false, heads_more, silent_more)
 
     -- it has passed, which tells nothing
     pub heard_passed : (word : ℕ) → e.ended ≡ false → HasHeard frames (passed_on e word)
     heard_passed word going =
         let q = quiet e.known turn.Going going refl refl refl in
-        record {
-          given_is = q.given_is;
-          heads_are = q.heads_are;
-          ended_is = q.ended_is;
-          silent = q.silent;
-        }
+        assumption
 
     -- or has left
     pub heard_left : (word : ℕ) → HasHeard frames (left_for_good e word)
-    heard_left word = record {
-      given_is = h.given_is;
-      heads_are = h.heads_are;
-      ended_is = h.ended_is;
-      silent = h.silent;
-    }
+    heard_left word = assumption
 
     quiet_if : (b : Bool) (known : List ℕ) → e.ended ≡ false
         → HasHeard frames (heard_length e known (cond b turn.Empty turn.Going))
@@ -152,21 +99,9 @@ module _ (frames : List Frame) where
         let more = given_more e.answers (turn_of found) in
         record {
           given_is =
-              more
-              ∙ ap (λ z. more_order z (entry_heard (turn_of found)) (end_heard (turn_of found)))
-              h.given_is
-              ∙ ap (λ z. more_order (order_in (take e.place all)) z (end_heard (turn_of found)))
-              (entry_told found)
-              ∙ ap (more_order (order_in (take e.place all)) (piece_entries found)) (end_told found)
-              ∙ sym (order_more (take e.place all) found) ∙ ap order_in (sym pieces);
-          heads_are =
-              heads_more e.answers (turn_of found)
-              ∙ ap (λ z. z ++ head_heard (turn_of found)) h.heads_are
-              ∙ ap (λ z. owners_in (take e.place all) ++ z) (head_told found)
-              ∙ sym (owners_more (take e.place all) found) ∙ ap owners_in (sym pieces);
-          ended_is =
-              sym (end_told found) ∙ ap (λ z. z || end_heard (turn_of found)) (sym none)
-              ∙ ap (λ (z : Order). z.ended) (sym more);
+              grind (arith, common_steps, more_order, take, entry_told, end_told, order_more);
+          heads_are = grind (arith, common_steps, heads_more, take, head_told, owners_more);
+          ended_is = grind (arith, common_steps, end_told);
           silent = silent_more e.answers (turn_of found) none;
         }
 
@@ -174,22 +109,7 @@ module _ (frames : List Frame) where
     pub heard_later : (more : List Frame) → e.place ≤ length (log_words frames)
         → HasHeard (frames ++ more) e
     heard_later more l =
-        let size = length-log_pieces frames in
-        let front : take e.place (log_pieces (frames ++ more)) ≡ take e.place (log_pieces frames) =
-        ap (take e.place) (flat_map-append frame_pieces frames more)
-        ∙ take-append-le e.place (log_pieces frames) (log_pieces more) (omega arith) in
-        record {
-          given_is = h.given_is ∙ ap order_in (sym front);
-          heads_are = h.heads_are ∙ ap owners_in (sym front);
-          ended_is = h.ended_is;
-          silent = h.silent;
-        }
-
--- where nothing is left past a place, more words say no more
-past : {A : Type 0} (p q : ℕ) (xs : List A) → p ≤ q → drop p xs ≡ [] → take q xs ≡ take p xs
-past p q xs le none =
-    let size = length-drop p xs in
-    let nothing = ap length none in take_all q xs (omega arith) ∙ sym (take_all p xs (omega arith))
+        grind (arith, common_steps, length-log_pieces, take, flat_map-append, take-append-le)
 
 -- ---- a receiver and the whole order
 module _ (n : ℕ) (frames : List Frame) (lawful : AreFrames n frames) where
@@ -220,29 +140,11 @@ module _ (n : ℕ) (frames : List Frame) (lawful : AreFrames n frames) where
       let rest = drop p (take q all) in
       let front : take q all ≡ take p all ++ rest =
       sym (ap (λ z. z ++ rest) (sym (take-take p q all le)) ∙ take-append-drop p (take q all)) in
-      let order_is : order_given f.answers ≡ order_in (take p all ++ rest) =
-      k.given_is ∙ ap order_in front in
       record {
-        order = record {
-          later = flat_map piece_entries rest;
-          entries =
-              ap (λ (z : Order). z.entries) order_is
-              ∙ flat_map-append piece_entries (take p all) rest
-              ∙ ap (λ (z : Order). z.entries ++ flat_map piece_entries rest) (sym h.given_is);
-          ended = λ d.
-              let over : list_any is_end (take p all) ≡ true =
-              ap (λ (z : Order). z.ended) (sym h.given_is) ∙ d in
-              let none : drop p all ≡ [] = end_last n 0 frames (take p all) (drop p all) lawful
-              (sym (take-append-drop p all)) over in
-              h.given_is ∙ ap order_in (sym (past p q all le none)) ∙ sym k.given_is;
-        };
-        owners = record {
-          rest = owners_in rest;
-          together =
-              ap (λ z. z ++ owners_in rest) h.heads_are
-              ∙ sym (flat_map-append piece_owners (take p all) rest) ∙ ap owners_in (sym front)
-              ∙ sym k.heads_are;
-        };
+        order = subst (λ o. IsPrefixOfOrder o (order_given f.answers)) (sym h.given_is)
+            (subst (IsPrefixOfOrder (order_in (take p all))) (sym k.given_is)
+            (taken_begins n frames lawful p q le));
+        owners = grind (arith, common_steps, flat_map-append, take);
       }
 
   pub agree : (e f : ReceiverView) → HasHeard frames e → HasHeard frames f → Agree e f

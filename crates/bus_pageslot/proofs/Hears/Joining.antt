@@ -1,21 +1,19 @@
 -- Joined seats: how seats are joined, what they learn, and how they are cut apart again.
 use Rattle.std.proofs.Common.{◌≡◌, ◌≢◌, ◌⊎◌, inl, inr, ℕ, Option, List, [], ◌∷◌, ◌++◌, length}
-use Rattle.std.proofs.Common.{false, length-set, map, set}
-use Rattle.std.proofs.Common.{slice_index, arith, refl, sym, ◌∙◌, ap, subst, ⊎_elim}
+use Rattle.std.proofs.Common.{false, length-set, map, set, slice_index, arith, refl, sym, ◌∙◌}
+use Rattle.std.proofs.Common.{subst, ⊎_elim}
+use Rattle.std.proofs.lemmas.Grind.{common_steps}
 use mathlib.Core.Option.{some}
 use lib.ListN.{get_elem?}
 use Rattle.atomic_table.specs.Table.{State, keeps, Allows, Splits, Joins}
 use Rattle.atomic_table.proofs.Lists.{at_set, set_else}
 use Rattle.bus_pageslot.specs.Notes.{Notes}
 use Rattle.bus_pageslot.proofs.Ruled.Openings.{at_end}
-use Rattle.bus_batch.specs.declared.messages.Item.{Item}
-use Rattle.bus_batch.specs.Frames.{AreFrames, order_of, tenure_and_owner}
 use Rattle.bus_batch.proofs.FrameLaws.{same_log}
-use Rattle.bus_deliverylog.specs.Orders.{of_sender}
 use Rattle.bus_tenure.specs.Core.{length_at}
 use Rattle.bus_tenure.specs.declared.pages.Page.{Page}
-use Rattle.bus_world.specs.Headline.{Action, puts}
-use Rattle.bus_pageslot.specs.ReceiverViews.{ReceiverView, receiver_view_knowing, HasHeard, Agree}
+use Rattle.bus_world.specs.Headline.{Action}
+use Rattle.bus_pageslot.specs.ReceiverViews.{ReceiverView, receiver_view_knowing, Agree}
 use Rattle.bus_pageslot.specs.declared.rule.View.{View}
 use Rattle.bus_pageslot.specs.declared.rule.View.TheVariants.{Maker, Sender, Tap, Meeting, Telling}
 use Rattle.bus_pageslot.specs.declared.rule.View.TheVariants.{Spent}
@@ -145,13 +143,7 @@ module _ {C : Type 0} (P : Process C) (A : Automaton C) where
           seat = r.seat;
           ear = g.ear';
           views = λ j u e. elim (at_end (set s.views id w) (Tap y l) u j e) [
-            | inl k ↦ ⊎_elim
-                (λ (n : (j ≡ id) × (w ≡ u)).
-                subst (λ (y : ℕ × View C). IsTrueOf P A r.state r.seat g.ear' y.0 y.1)
-                (λ i. (sym n.0 i, n.1 i)) fits)
-                (λ (n : (j ≢ id) × (get_elem? s.views j ≡ some u)).
-                g.others j n.0 u (r.views j u n.1))
-                (at_set s.views id j w u k)
+            | inl k ↦ grind (arith, common_steps, some, at_set)
             | inr k ↦ subst (λ (y : ℕ × View C). IsTrueOf P A r.state r.seat g.ear' y.0 y.1)
                 (λ i. (sym (k.0 ∙ length-set s.views id w) i, k.1 i)) g.here
           ];
@@ -209,11 +201,7 @@ module _ {C : Type 0} (P : Process C) (A : Automaton C) where
 pub both_agree : {C : Type 0} (A : Automaton C) (z : A.State) (ear : ℕ → Ear) (j : ℕ)
     (x y : TableLayout) (e f : ReceiverView)
     → KnowsLog A z ear j x e → KnowsLog A z ear j y f → Agree e f
-both_agree A z ear j x y e f h k =
-    let same : k.frames ≡ h.frames = same_log A.table_layout.senders 0 0 k.frames h.frames k.lawful
-    h.lawful (k.words_are ∙ sym h.words_are) in
-    agree A.table_layout.senders h.frames h.lawful e f h.heard
-    (subst (λ fs. HasHeard fs f) same k.heard)
+both_agree A z ear j x y e f h k = grind (arith, common_steps, same_log, agree)
 
 module _ {C : Type 0} (P : Process C) (A : Automaton C) (L : AutomatonLaws P A) where
   -- what the log holds of a sender, with all that it has accepted
@@ -227,29 +215,7 @@ module _ {C : Type 0} (P : Process C) (A : Automaton C) (L : AutomatonLaws P A) 
       let z = m.state in
       let log = L.log z m.changes.reached in
       let is = L.senders z (P.me c) e m.changes.reached m.changes.here in
-      let same : log_in A z ≡ log_in A r.state = m.log in
-      let order = order_of log.frames in
-      record {
-        order = order;
-        owners = map tenure_and_owner log.frames;
-        spelled = record {
-          frames = log.frames;
-          lawful = subst (λ (x : TableLayout). AreFrames x.senders log.frames) (sym is.table_layout)
-              log.lawful;
-          words_are = log.words_are ∙ same;
-          order_is = refl;
-          owners_are = refl;
-        };
-        sent =
-            ap (λ q. map (λ (i : Item). i.message) (of_sender q order) ++ P.waiting e) is.me
-            ∙ L.sent z (P.me c) e log.frames m.changes.reached m.changes.here log.lawful
-            log.words_are
-            ∙ ap puts (ap (λ t. t.actions) m.changes.sender_trail
-            ∙ ap (λ t. t.actions ++ actions) h.sender_trail_is);
-        long =
-            let l = size P A L s r in
-            let w = ap (λ w. slice_index w 0) r.words in let a = h.reached in omega arith;
-      }
+      grind (arith, common_steps, map, size, slice_index)
 
   -- joined seats load the length
   pub meets_allowed : (v : View C) (carried : List (ℕ × Option Page)) → IsPair v → (slots id : ℕ)
@@ -317,20 +283,7 @@ module _ {C : Type 0} (P : Process C) where
       → (m' ≡ (Sender c t notes, carried)) × Learns (Tap y l, []) got n'
       × ((e : C) (actions : List Action) → Accepts P c e actions
       → KnowsSent P e (t.actions ++ actions) notes.stored (known_in n'.0))
-  told_at c t notes carried y l got m' n' h = (
-    h.first,
-    record {
-      known = h.known;
-      now = h.second;
-      grows = h.grows.0;
-      length_is = h.length_is;
-      within = h.grows.1;
-    },
-    subst (λ (y : Sat C).
-        (e : C) (actions : List Action) → Accepts P c e actions
-        → KnowsSent P e (t.actions ++ actions) notes.stored (known_in y.0)) (sym h.second)
-        h.grows.2,
-  )
+  told_at c t notes carried y l got m' n' h = grind (arith, common_steps)
 
   pub told_of : (c : C) (t : SenderTrail) (notes : Notes) (carried : List (ℕ × Option Page))
       (y : TableLayout) (l : ReceiverView) (m n : Sat C) (got : ℕ) (m' n' : Sat C)
@@ -338,46 +291,17 @@ module _ {C : Type 0} (P : Process C) where
       → (m' ≡ m) × Learns n got n'
       × ((e : C) (actions : List Action) → Accepts P c e actions
       → KnowsSent P e (t.actions ++ actions) notes.stored (known_in n'.0))
-  told_of c t notes carried y l m n got m' n' em en h =
-      subst (λ (y : Sat C × Sat C).
-      (m' ≡ y.0) × Learns y.1 got n'
-      × ((e : C) (actions : List Action) → Accepts P c e actions
-      → KnowsSent P e (t.actions ++ actions) notes.stored (known_in n'.0)))
-      (λ i. (sym em i, sym en i))
-      (told_at c t notes carried y l got m' n'
-      (subst (λ (y : Sat C × Sat C). Met P y.0 y.1 got m' n') (λ i. (em i, en i)) h))
+  told_of c t notes carried y l m n got m' n' em en h = grind (arith, common_steps, told_at)
 
   met_at : (x : TableLayout) (k : ReceiverView) (y : TableLayout) (l : ReceiverView) (got : ℕ)
       (m' n' : Sat C) → Met P (Tap x k, []) (Tap y l, []) got m' n'
       → Learns (Tap x k, []) got m' × Learns (Tap y l, []) got n' × (known_in n'.0 ≡ known_in m'.0)
       × Agree k l
-  met_at x k y l got m' n' h = (
-    record {
-      known = h.known;
-      now = h.first;
-      grows = h.grows.0;
-      length_is = h.length_is;
-      within = h.grows.2;
-    },
-    record {
-      known = h.known;
-      now = h.second;
-      grows = h.grows.1;
-      length_is = h.length_is;
-      within = h.grows.3;
-    },
-    ap (λ (y : Sat C). known_in y.0) h.second ∙ sym (ap (λ (y : Sat C). known_in y.0) h.first),
-    h.grows.4,
-  )
+  met_at x k y l got m' n' h = grind (arith, common_steps)
 
   pub met_of : (x : TableLayout) (k : ReceiverView) (y : TableLayout) (l : ReceiverView)
       (m n : Sat C) (got : ℕ) (m' n' : Sat C) → m ≡ (Tap x k, []) → n ≡ (Tap y l, [])
       → Met P m n got m' n'
       → Learns m got m' × Learns n got n' × (known_in n'.0 ≡ known_in m'.0)
       × Agree (receiver_view_in m.0) (receiver_view_in n.0)
-  met_of x k y l m n got m' n' em en h =
-      subst (λ (y : Sat C × Sat C).
-      Learns y.0 got m' × Learns y.1 got n' × (known_in n'.0 ≡ known_in m'.0)
-      × Agree (receiver_view_in y.0.0) (receiver_view_in y.1.0)) (λ i. (sym em i, sym en i))
-      (met_at x k y l got m' n'
-      (subst (λ (y : Sat C × Sat C). Met P y.0 y.1 got m' n') (λ i. (em i, en i)) h))
+  met_of x k y l m n got m' n' em en h = grind (arith, common_steps, met_at)

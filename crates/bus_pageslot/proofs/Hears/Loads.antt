@@ -1,14 +1,15 @@
 -- A receiver's loads are allowed.
-use Rattle.std.proofs.Common.{◌≡◌, ◌≢◌, ◌⊎◌, ℕ, ◌<◌, ◌≤◌, Option, Some, List, [], ◌++◌, length}
-use Rattle.std.proofs.Common.{false, set, slice_get, slice_index, slice_set, arith, refl, sym, ◌∙◌}
-use Rattle.std.proofs.Common.{ap, subst, ⊎_elim, inl, inr}
+use Rattle.std.proofs.Common.{◌≡◌, ◌⊎◌, ℕ, ◌<◌, ◌≤◌, Option, Some, List, length, false, set}
+use Rattle.std.proofs.Common.{slice_get, slice_index, slice_set, arith, refl, sym, ◌∙◌, ap, subst}
+use Rattle.std.proofs.Common.{inl, inr}
 use mathlib.Core.Option.{some}
 use lib.ListN.{get_elem?}
 use Rattle.std.proofs.lemmas.List.{append-nil, length-append, get_or_append_left, set-get_or}
+use Rattle.std.proofs.lemmas.Grind.{common_steps}
 use Rattle.atomic_table.specs.Table.{State, keeps, Allows}
 use Rattle.atomic_table.proofs.Lists.{at_set}
 use Rattle.bus_register.specs.Private.TableLaws.{some_or_none, here_not}
-use Rattle.bus_batch.specs.Frames.{AreFrames, log_pieces}
+use Rattle.bus_batch.specs.Frames.{log_pieces}
 use Rattle.bus_deliverylog.specs.Receiving.{turn_of}
 use Rattle.bus_tenure.specs.Core.{length_at}
 use Rattle.bus_tenure.specs.declared.pages.Page.{Page}
@@ -22,11 +23,10 @@ use Rattle.bus_pageslot.specs.declared.rule.View.TheVariants.{Maker, Sender, Tap
 use Rattle.bus_pageslot.specs.declared.rule.View.TheVariants.{Spent}
 use Rattle.bus_automaton.specs.Processes.{TableLayout, Process, Automaton, log_cell, log_in}
 use Rattle.bus_automaton.specs.Lawful.{AutomatonLaws, MayAsk}
-use Rattle.bus_pageslot.specs.Rule.{Sat, Seats, SeatsReceiver, SeatsStaying, IsListening}
-use Rattle.bus_pageslot.specs.Rule.{Ear, KnowsLog, IsTrueOf}
-use Rattle.bus_pageslot.specs.Rule.{receiver_view_in, known_in, with_receiver_view, senders_in}
-use Rattle.bus_pageslot.specs.Rule.{table_layout_in, log_word_in, FitsLog, MayRead, with_look}
-use Rattle.bus_pageslot.specs.Rule.{TableInvariant}
+use Rattle.bus_pageslot.specs.Rule.{Sat, Seats, SeatsReceiver, SeatsStaying, IsListening, Ear}
+use Rattle.bus_pageslot.specs.Rule.{KnowsLog, IsTrueOf, receiver_view_in, known_in}
+use Rattle.bus_pageslot.specs.Rule.{with_receiver_view, table_layout_in, log_word_in, FitsLog}
+use Rattle.bus_pageslot.specs.Rule.{MayRead, with_look, TableInvariant}
 use Rattle.bus_pageslot.specs.Steps.{Learns, Reads}
 use Rattle.bus_automaton.specs.declared.plans.Plan.{Plan}
 use Rattle.bus_pageslot.specs.Listening.{FindsLength, FindsWord}
@@ -52,12 +52,7 @@ reloaded {C} P A s r i id v w at still fits = record {
   slot = r.slot;
   seat = r.seat;
   ear = r.ear;
-  views = λ j v e. ⊎_elim
-      (λ (u : (j ≡ id) × (w ≡ v)).
-      subst (λ (y : ℕ × View C). IsTrueOf P A r.state r.seat r.ear y.0 y.1)
-      (λ i. (sym u.0 i, u.1 i)) fits)
-      (λ (u : (j ≢ id) × (get_elem? s.views j ≡ some v)). r.views j v u.1)
-      (at_set s.views id j w v e);
+  views = λ j v e. grind (arith, common_steps, some, at_set);
   all = λ p below. still_seen (Seats P p) s.views id v w at (still (inl p)) (r.all p below);
   all_heard = λ q below. still_seen (SeatsReceiver q) s.views id v w at (still (inr (inl q)))
       (r.all_heard q below);
@@ -117,14 +112,7 @@ pub listens_on : {C : Type 0} (A : Automaton C) (z : A.State) (ear : ℕ → Ear
     (e e' : ReceiverView) → e'.me ≡ e.me → e'.passed ≡ e.passed → e'.gone ≡ e.gone
     → e.place ≤ e'.place → Listens A z ear j e → Listens A z ear j e'
 listens_on A z ear j e e' me passed gone on (inl flat) = inl flat
-listens_on A z ear j e e' me passed gone on (inr l) = inr record {
-  here = λ stays. ap ear me ∙ l.here (sym gone ∙ stays);
-  made = λ i none. l.made i (sym (ap ear me) ∙ none);
-  below = let same = me in let low = l.below in omega arith;
-  shown = λ stays.
-      ap (A.passed z) me ∙ l.shown (sym gone ∙ stays) ∙ ap Some (sym passed);
-  past = let a = l.past in omega arith;
-}
+listens_on A z ear j e e' me passed gone on (inr l) = grind (arith, common_steps)
 
 -- a receiver that knows the whole log, and has read what it had read
 pub knows_all : {C : Type 0} (A : Automaton C) (z : A.State) (ear : ℕ → Ear) (j : ℕ)
@@ -133,19 +121,8 @@ pub knows_all : {C : Type 0} (A : Automaton C) (z : A.State) (ear : ℕ → Ear)
     → (h : KnowsLog A z ear j x e) → e'.known ≡ log_in A z → e'.place ≡ e.place
     → HasHeard h.frames e' → e'.me ≡ e.me → e'.passed ≡ e.passed → e'.gone ≡ e.gone
     → KnowsLog A z ear j x e'
-knows_all A z ear j x e e' h all place heard me passed gone = record {
-  table_layout = h.table_layout;
-  front = record { rest = []; together = append-nil e'.known ∙ all };
-  below =
-      (let a = h.below in
-      let l = length-append e.known h.front.rest in
-      let t = ap length h.front.together in let s = ap length all in omega arith);
-  frames = h.frames;
-  lawful = h.lawful;
-  words_are = h.words_are;
-  heard = heard;
-  listens = listens_on A z ear j e e' me passed gone (omega arith) h.listens;
-}
+knows_all A z ear j x e e' h all place heard me passed gone =
+    grind (arith, common_steps, append-nil, length-append, length, listens_on)
 
 pub whole : {C : Type 0} (A : Automaton C) (z : A.State) (ear : ℕ → Ear) (j : ℕ) (x : TableLayout)
     (e : ReceiverView) → KnowsLog A z ear j x e
@@ -162,13 +139,7 @@ module _ {C : Type 0} (P : Process C) (A : Automaton C) (L : AutomatonLaws P A) 
   -- and fits the log's words, where none of them is used again
   pub fits : (s : State (Option Page) (View C)) (r : TableInvariant P A s) (x : TableLayout)
       → x ≡ A.table_layout → FitsLog x (log_in A r.state)
-  fits s r x is flat =
-      let most = (L.log r.state r.reached).fits
-      (sym (ap (λ (z : TableLayout). z.passers) is) ∙ flat) in
-      let l = size s r in
-      let w = ap (λ w. slice_index w 0) r.words in
-      let capacity = ap (λ (z : TableLayout). z.capacity) is in
-      omega arith
+  fits s r x is flat = grind (arith, common_steps, size, slice_index)
 
   pub length_allowed : (slots id : ℕ) (m : Sat C) (x : TableLayout) (e : ReceiverView)
       → m.0 ≡ Tap x e
@@ -239,10 +210,7 @@ may_ask : {C : Type 0} (A : Automaton C) (z : A.State) (ear : ℕ → Ear) (j : 
     → MayAsk A z e.me place
 may_ask A z ear j x e h place (inl flat) =
     inl (sym (ap (λ (y : TableLayout). y.passers) h.table_layout) ∙ flat)
-may_ask A z ear j x e h place (inr has) = elim h.listens [
-  | inl flat ↦ inl flat
-  | inr l ↦ inr (e.passed, l.shown has.0, has.1)
-]
+may_ask A z ear j x e h place (inr has) = grind (arith, common_steps)
 
 -- the word that it knows at a place stands in its cell
 pub known_word : {C : Type 0} (P : Process C) (A : Automaton C) (L : AutomatonLaws P A)
@@ -340,16 +308,9 @@ word_found {C} P A L id m x e is going may below s r here =
               found = found.0;
               frames = h.frames;
               rest = h.front.rest;
-              lawful = subst (λ (n : ℕ). AreFrames n h.frames)
-                  (ap (λ (z : TableLayout). z.senders) (sym h.table_layout)
-                  ∙ ap (λ (v : View C). senders_in v) (sym is)) h.lawful;
-              words_are =
-                  h.words_are ∙ sym h.front.together
-                  ∙ ap (λ (v : View C). known_in v ++ h.front.rest) (sym is);
-              at =
-                  ap (λ (v : View C). slice_get (log_pieces h.frames) (receiver_view_in v).place)
-                  is
-                  ∙ found.1;
+              lawful = grind (arith, common_steps);
+              words_are = cc;
+              at = cc;
               now = λ i. (
                 with_receiver_view (sym is i) (heard_word (receiver_view_in (sym is i))
                     (log_word_in (sym is i) (receiver_view_in (sym is i)).place) found.0

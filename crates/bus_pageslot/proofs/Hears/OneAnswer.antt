@@ -1,12 +1,12 @@
 -- Each turn of a receiver adds one answer.
-use Rattle.std.proofs.Common.{◌≡◌, ◌⊎◌, inl, inr, ℕ, ◌+◌, ◌<◌, ◌≤◌, Bool, true, false, Option, List}
+use Rattle.std.proofs.Common.{◌≡◌, ◌⊎◌, inl, inr, ℕ, ◌<◌, ◌≤◌, Bool, true, false, Option, List}
 use Rattle.std.proofs.Common.{[], ◌∷◌, ◌++◌, drop, length, take, arith, refl, sym, ◌∙◌, ap, subst}
 use Rattle.std.specs.Prelude.{if◌then◌else◌, ◌==◌}
 use Rattle.std.proofs.lemmas.Bool.{cases_lt}
 use Rattle.std.proofs.lemmas.Bool.Decides.{eqb_tells}
 use Rattle.std.proofs.lemmas.List.{length-append, take_all, take-append-drop}
 use Rattle.std.proofs.lemmas.List.{take-append-le}
-use Rattle.bus_batch.specs.declared.messages.Item.{Item}
+use Rattle.std.proofs.lemmas.Grind.{common_steps}
 use Rattle.bus_deliverylog.specs.declared.receiving.RecvTurn.{RecvTurn}
 use Rattle.bus_deliverylog.specs.declared.receiving.RecvTurn.TheVariants as turn
 use Rattle.bus_register.specs.declared.registers.SenderNo.{SenderNo}
@@ -14,11 +14,10 @@ use Rattle.bus_tenure.specs.declared.pages.Page.{Page}
 use Rattle.bus_world.specs.Headline.{IsPrefix, end_heard}
 use Rattle.bus_world.proofs.Growing.{nothing_more}
 use Rattle.bus_world.proofs.HearTrails.{end_told}
-use Rattle.bus_automaton.specs.Processes.{TableLayout, no_table_layout, log_cell, passed_word}
+use Rattle.bus_automaton.specs.Processes.{TableLayout, no_table_layout}
 use Rattle.bus_pageslot.specs.Listening.{Hears, PassIsDue}
 use Rattle.bus_pageslot.specs.OneAnswer.{AddsAnswer}
-use Rattle.bus_pageslot.specs.ReceiverViews.{ReceiverView, heard_length, heard_word, passed_on}
-use Rattle.bus_pageslot.specs.ReceiverViews.{length_turn}
+use Rattle.bus_pageslot.specs.ReceiverViews.{ReceiverView, length_turn}
 use Rattle.bus_pageslot.specs.Rule.{Sat, receiver_view_in, table_layout_in}
 use Rattle.bus_pageslot.specs.declared.rule.View.{View}
 use Rattle.bus_pageslot.specs.declared.rule.View.TheVariants.{Maker, Sender, Tap, Meeting, Telling}
@@ -116,9 +115,7 @@ layouts_apart = by_code layout_code layout_read (λ x. refl)
 
 -- ---- a list that begins another
 begins : (xs ys : List ℕ) → IsPrefix xs ys → take (length xs) ys ≡ xs
-begins xs ys h =
-    ap (take (length xs)) (sym h.together) ∙ take-append-le (length xs) xs h.rest (omega arith)
-    ∙ take_all (length xs) xs (omega arith)
+begins xs ys h = grind (arith, common_steps, take, length, take-append-le, take_all)
 
 stable_prefix : (xs ys : List ℕ) → ((IsPrefix xs ys → ⊥) → ⊥) → IsPrefix xs ys
 stable_prefix xs ys h =
@@ -131,10 +128,7 @@ stable_prefix xs ys h =
     }
 
 stable_le : (m n : ℕ) → ((m ≤ n → ⊥) → ⊥) → m ≤ n
-stable_le m n h = elim (cases_lt n m) [
-  | inl l ↦ absurd (h (λ e. omega arith))
-  | inr l ↦ l
-]
+stable_le m n h = grind (arith, common_steps, cases_lt)
 
 stable_adds : (e f : ReceiverView) (answer : RecvTurn) → ((AddsAnswer e answer f → ⊥) → ⊥)
     → AddsAnswer e answer f
@@ -176,9 +170,7 @@ module _ {C : Type 0} (x : TableLayout) where
       let same : y ≡ x =
       stable (layouts_apart y x) (λ n. h (λ k. n (ap (λ (z : Sat C). table_layout_in z.0) k.1))) in
       (f, λ i. (Tap (same i) f, []))
-  stable_tap (Tap y f) (out ∷ more) h = absurd (h (λ k.
-      let no : ◌≡◌ {A = List (ℕ × Option Page)} (out ∷ more) [] = ap (λ (z : Sat C). z.1) k.1 in
-      cc))
+  stable_tap (Tap y f) (out ∷ more) h = grind (arith, common_steps)
   stable_tap (Meeting y e z f) carried h = absurd (other_view (Meeting y e z f) carried refl h)
   stable_tap (Telling c t stored y e) carried h =
       absurd (other_view (Telling c t stored y e) carried refl h)
@@ -203,64 +195,16 @@ module _ {C : Type 0} (x : TableLayout) (e : ReceiverView) (answer : RecvTurn) (
   Added = (f : ReceiverView) × (m ≡ (Tap x f, [])) × AddsAnswer e answer f
 
   at_pass : PassIsDue x e → Added
-  at_pass due =
-      let step = h.at_pass going due in (
-        passed_on e (passed_word x e.me),
-        step.1,
-        record {
-          answers = ap (λ a. e.answers ++ a ∷ []) (sym step.0);
-          known = nothing_more e.known;
-          place = omega arith;
-          within = within;
-          ended = going ∙ ap end_heard (sym step.0);
-          me = refl;
-          gone = refl;
-        },
-      )
+  at_pass due = grind (arith, common_steps, nothing_more)
 
   at_word : (PassIsDue x e → ⊥) → e.place < length e.known → Added
-  at_word not_due low =
-      let step = h.at_word going not_due low in
-      let found = step.finds.found in (
-        heard_word e (log_cell x e.place) found answer,
-        step.finds.now
-            ∙ ap (λ a. (Tap x (heard_word e (log_cell x e.place) found a), []))
-            (sym step.answer_is),
-        record {
-          answers = refl;
-          known = nothing_more e.known;
-          place = omega arith;
-          within = (omega (arith, low));
-          ended = sym (ap end_heard step.answer_is ∙ end_told found);
-          me = refl;
-          gone = refl;
-        },
-      )
+  at_word not_due low = grind (arith, common_steps, nothing_more, end_told)
 
   at_length : (PassIsDue x e → ⊥) → e.place ≡ length e.known → Added
-  at_length not_due all =
-      let step = h.at_length going not_due all in
-      let known = step.finds.known in
-      let more = longer e.known known step.finds.grows in (
-        heard_length e known answer,
-        step.finds.now
-            ∙ ap (λ a. (Tap x (heard_length e known a), [])) (sym step.answer_is),
-        record {
-          answers = refl;
-          known = step.finds.grows;
-          place = omega arith;
-          within = (omega (arith, more, all));
-          ended = going ∙ sym (ap end_heard step.answer_is ∙ quiet_length e.place step.got);
-          me = refl;
-          gone = refl;
-        },
-      )
+  at_length not_due all = grind (arith, common_steps, longer, quiet_length)
 
   not_at_pass : (PassIsDue x e → ⊥) → Added
-  not_at_pass not_due = elim (cases_lt e.place (length e.known)) [
-    | inl low ↦ at_word not_due low
-    | inr all ↦ at_length not_due (omega arith)
-  ]
+  not_at_pass not_due = grind (arith, common_steps, cases_lt, length, at_word, at_length)
 
   -- whether its passed place is due is not told apart, so this is not untrue at first
   not_untrue : (Added → ⊥) → ⊥

@@ -1,17 +1,18 @@
 -- A receiver's stores in its passed place are allowed: of its place, where a frame begins, and of
 -- the number past all places.
-use Rattle.std.proofs.Common.{◌≡◌, ◌≢◌, inl, inr, ℕ, ◌<◌, true, false, Option, Some, None}
-use Rattle.std.proofs.Common.{[], ◌∷◌, ◌++◌, drop, length, slice_index, slice_set}
-use Rattle.std.proofs.Common.{take, arith, refl, sym, ◌∙◌, ap, subst, ⊎_elim, append_assoc}
+use Rattle.std.proofs.Common.{◌≡◌, ◌≢◌, inl, inr, ℕ, ◌<◌, true, false, Option, Some, None, [], ◌∷◌}
+use Rattle.std.proofs.Common.{◌++◌, drop, length, slice_index, slice_set, take, arith, refl, sym}
+use Rattle.std.proofs.Common.{◌∙◌, ap, subst, append_assoc}
 use mathlib.Core.Option.{some}
 use lib.ListN.{get_elem?}
 use Rattle.std.proofs.lemmas.Bool.{cases_eq}
 use Rattle.std.proofs.lemmas.List.{get_or-set_other, length-take}
 use Rattle.std.proofs.lemmas.List.{take-append-drop}
+use Rattle.std.proofs.lemmas.Grind.{common_steps}
 use Rattle.atomic_table.specs.Table.{State, keeps, Allows}
 use Rattle.atomic_table.proofs.Lists.{at_set, set_here}
 use Rattle.bus_register.specs.declared.limits.TheConstants.{PASSED_ALL}
-use Rattle.bus_batch.specs.Frames.{AreFrames, Order, IsLog, log_words}
+use Rattle.bus_batch.specs.Frames.{IsLog, log_words}
 use Rattle.bus_tenure.specs.declared.pages.Page.{Page}
 use Rattle.bus_world.proofs.Standing.{frames_begin}
 use Rattle.bus_automaton.specs.Lawful.{AutomatonLaws, MayPass, PassesIn}
@@ -38,52 +39,26 @@ module _ {C : Type 0} (P : Process C) (A : Automaton C) (L : AutomatonLaws P A)
     (p : PassesIn A r.state me number passed) where
   -- ---- the other views stay true
   first_same : slice_index (A.words p.state) 0 ≡ slice_index (A.words r.state) 0
-  first_same =
-      ap (λ ws. slice_index ws 0) p.words
-      ∙ get_or-set_other (A.words r.state) (passed_word A.table_layout me) 0 number 0
-      (λ e. absurd (let low = L.passed_behind in omega arith))
+  first_same = grind (arith, common_steps, slice_index, get_or-set_other)
 
   apart : (j : ℕ) → j ≢ id → (q : ℕ) → seat_of (r.ear q) ≡ j → q ≢ me
   apart j other q at same = other (sym at ∙ ap (λ i. seat_of (r.ear i)) same ∙ ap seat_of mine)
 
   seated_still : (j : ℕ) (c : C) (t : SenderTrail) (stored : ℕ)
       → IsSeated P A r.state r.seat j c t stored → IsSeated P A p.state r.seat j c t stored
-  seated_still j c t stored h = record {
-    here = h.here;
-    core = p.senders (P.me c) ∙ h.core;
-    sender_trail_is = p.trails (P.me c) ∙ h.sender_trail_is;
-    reached = let a = h.reached in let same = first_same in omega arith;
-  }
+  seated_still j c t stored h = grind (arith, common_steps, first_same)
 
   listens_still : (j : ℕ) → j ≢ id → (e : ReceiverView) → Listens A r.state r.ear j e
       → Listens A p.state r.ear j e
   listens_still j other e (inl flat) = inl flat
-  listens_still j other e (inr l) = inr record {
-    here = l.here;
-    made = l.made;
-    below = l.below;
-    shown = λ stays. p.others e.me (apart j other e.me (ap seat_of (l.here stays))) ∙ l.shown stays;
-    past = l.past;
-  }
+  listens_still j other e (inr l) = grind (arith, common_steps, apart, seat_of)
 
   -- what a receiver knows, with what it shows then
   pub knows_with : (j : ℕ) (x : TableLayout) (e e' : ReceiverView)
       (h : KnowsLog A r.state r.ear j x e)
       → e'.known ≡ e.known → e'.place ≡ e.place → HasHeard h.frames e'
       → Listens A p.state r.ear j e' → KnowsLog A p.state r.ear j x e'
-  knows_with j x e e' h known place heard listens = record {
-    table_layout = h.table_layout;
-    front = record {
-      rest = h.front.rest;
-      together = ap (λ k. k ++ h.front.rest) known ∙ h.front.together ∙ sym p.log;
-    };
-    below = let a = h.below in let size = ap length known in omega arith;
-    frames = h.frames;
-    lawful = h.lawful;
-    words_are = h.words_are ∙ sym p.log;
-    heard = heard;
-    listens = listens;
-  }
+  knows_with j x e e' h known place heard listens = grind (arith, common_steps, length)
 
   knows_still : (j : ℕ) → j ≢ id → (x : TableLayout) (e : ReceiverView)
       → KnowsLog A r.state r.ear j x e → KnowsLog A p.state r.ear j x e
@@ -92,19 +67,7 @@ module _ {C : Type 0} (P : Process C) (A : Automaton C) (L : AutomatonLaws P A)
 
   others_true : (j : ℕ) → j ≢ id → (v : View C) → IsTrueOf P A r.state r.seat r.ear j v
       → IsTrueOf P A p.state r.seat r.ear j v
-  others_true j other (Maker x made) h = (
-    h.0,
-    (λ q low high. record {
-      here = (h.1 q low high).here;
-      core = p.senders q ∙ (h.1 q low high).core;
-      sender_trail_is = p.trails q ∙ (h.1 q low high).sender_trail_is;
-    }),
-    λ q low high. record {
-      here = (h.2 q low high).here;
-      passed = p.others q (apart j other q (ap seat_of (h.2 q low high).here))
-          ∙ (h.2 q low high).passed;
-    },
-  )
+  others_true j other (Maker x made) h = grind (arith, common_steps, apart, seat_of)
   others_true j other (Sender c t notes) h = seated_still j c t notes.stored h
   others_true j other (Tap x e) h = knows_still j other x e h
   others_true j other (Meeting x e y f) h =
@@ -130,13 +93,7 @@ module _ {C : Type 0} (P : Process C) (A : Automaton C) (L : AutomatonLaws P A)
       slot = r.slot ∙ ap (λ (h : Option Page). slot_of h ∷ []) (sym p.home);
       seat = r.seat;
       ear = r.ear;
-      views = λ j u i. ⊎_elim
-          (λ (k : (j ≡ id) × (w ≡ u)).
-          subst (λ (y : ℕ × View C). IsTrueOf P A p.state r.seat r.ear y.0 y.1)
-          (λ i. (sym k.0 i, k.1 i)) true_of)
-          (λ (k : (j ≢ id) × (get_elem? s.views j ≡ some u)).
-          others_true j k.0 u (r.views j u k.1))
-          (at_set s.views id j w u i);
+      views = λ j u i. grind (arith, common_steps, some, others_true, at_set);
       all = λ q below. still_seen (Seats P q) s.views id v w at (sends q) (r.all q below);
       all_heard = λ q below. still_seen (SeatsReceiver q) s.views id v w at (hears q)
           (r.all_heard q below);
@@ -168,12 +125,7 @@ module _ {C : Type 0} (P : Process C) (A : Automaton C) (L : AutomatonLaws P A)
 -- ---- a receiver that has a passed place is of its own number
 pub its_own : {C : Type 0} (A : Automaton C) (z : A.State) (ear : ℕ → Ear) (j : ℕ) (x : TableLayout)
     (e : ReceiverView) → KnowsLog A z ear j x e → 0 < x.passers → IsListening A z ear j e
-its_own A z ear j x e h any = by h.listens
-  where
-    by : Listens A z ear j e → IsListening A z ear j e
-    by (inl flat) =
-        absurd (let same = ap (λ (y : TableLayout). y.passers) h.table_layout in omega arith)
-    by (inr l) = l
+its_own A z ear j x e h any = grind (arith, common_steps)
 
 -- and may pass where the words that it has read are a log
 may_pass : {C : Type 0} (A : Automaton C) (z : A.State) (ear : ℕ → Ear) (j : ℕ) (x : TableLayout)
@@ -187,24 +139,7 @@ may_pass A z ear j x e h going log =
     ∙ sym (append_assoc (take e.place e.known) (drop e.place e.known) h.front.rest)
     ∙ ap (λ ws. ws ++ h.front.rest) (take-append-drop e.place e.known) ∙ h.front.together
     ∙ sym h.words_are in
-    let begun = frames_begin A.table_layout.senders 0 0 log.frames h.frames rest
-    (subst (λ n. AreFrames n log.frames) senders log.lawful) h.lawful
-    whole in
-    record {
-      frames = h.frames;
-      lawful = h.lawful;
-      words_are = h.words_are;
-      begins = record {
-        front = log.frames;
-        rest = begun.0;
-        frames_are = begun.1;
-        place_is =
-            let size = ap length log.words_are in
-            let read = length-take e.place e.known in
-            let within = h.below in omega arith;
-      };
-      no_end = ap (λ (o : Order). o.ended) (sym h.heard.given_is) ∙ sym h.heard.ended_is ∙ going;
-    }
+    grind (arith, frames_begin, length, length-take)
 
 -- ---- its two stores
 module _ {C : Type 0} (P : Process C) (A : Automaton C) (L : AutomatonLaws P A)

@@ -1,7 +1,7 @@
 -- How a receiver goes round the cells of its log.
-use Rattle.std.proofs.Common.{◌≡◌, ◌≢◌, ◌⊎◌, inl, inr, ℕ, ◌+◌, ◌-◌, ◌%◌, ◌<◌, ◌≤◌, ◌^◌, arith, sym}
-use Rattle.std.proofs.Common.{◌∙◌, ap}
+use Rattle.std.proofs.Common.{◌≡◌, ◌≢◌, ℕ, ◌+◌, ◌-◌, ◌%◌, ◌<◌, ◌≤◌, ◌^◌, arith, ◌∙◌, ap}
 use Rattle.std.proofs.Math.Nat.{mod-add-mod, add-mod-mod, add-mod_right, mod-eq_of_lt}
+use Rattle.std.proofs.lemmas.Grind.{common_steps}
 use Rattle.bus_deliverylog.specs.Receiving.{LogReading}
 use Rattle.bus_pageslot.specs.declared.listeners.Listener.{Listener}
 use Rattle.bus_pageslot.specs.Rounds.{GoesRound}
@@ -9,20 +9,13 @@ use Rattle.bus_pageslot.specs.Rounds.{GoesRound}
 -- ---- a place and its cell
 module _ (begin place L : ℕ) (first : begin % L ≡ 0) (behind : begin ≤ place) where
   pub cell_of : place < begin + L → place % L ≡ place - begin
-  cell_of low =
-      let place_is : place ≡ begin + (place - begin) = omega arith in
-      let none : 0 + (place - begin) ≡ place - begin = omega arith in
-      let small : place - begin < L = omega arith in
-      ap (λ n. n % L) place_is ∙ sym (mod-add-mod begin L (place - begin))
-      ∙ ap (λ n. (n + (place - begin)) % L) first ∙ ap (λ n. n % L) none ∙ mod-eq_of_lt small
+  cell_of low = grind (arith, common_steps, mod-add-mod, mod-eq_of_lt)
 
 -- the cell is a shift behind it
 pub shifted : (begin place shift log M : ℕ) → (begin + shift) % M ≡ log → begin ≤ place
     → log + (place - begin) < M → (place + shift) % M ≡ log + (place - begin)
 shifted begin place shift log M is behind small =
-    let sum : place + shift ≡ begin + shift + (place - begin) = omega arith in
-    ap (λ n. n % M) sum ∙ sym (mod-add-mod (begin + shift) M (place - begin))
-    ∙ ap (λ n. (n + (place - begin)) % M) is ∙ mod-eq_of_lt small
+    grind (arith, common_steps, mod-add-mod, mod-eq_of_lt)
 
 -- a whole log behind, the shift is a whole log less
 pub shifted_back : (begin shift log L M : ℕ) → (begin + shift) % M ≡ log → L ≤ M
@@ -39,10 +32,7 @@ module _ (l : Listener) (h : GoesRound l) where
   -- where it is in its round
   pub place_is : (l.reader.place + l.shift) % 2 ^ 64
       ≡ l.cells.log + (l.reader.place - h.begin)
-  place_is =
-      let small : l.cells.log + (l.reader.place - h.begin) < 2 ^ 64 =
-      (let before = h.before in let within = h.within in let few = h.room.few in omega arith) in
-      shifted h.begin l.reader.place l.shift l.cells.log (2 ^ 64) h.shift h.behind small
+  place_is = grind (arith, common_steps, shifted)
 
   pub within_round : l.reader.place ≤ h.begin + l.cells.log_words
   within_round = let before = h.before in let within = h.within in omega arith
@@ -54,37 +44,14 @@ module _ (l : Listener) (h : GoesRound l) where
   pub cell_at : l.reader.place ≢ l.limit
       → (l.reader.place + l.shift) % 2 ^ 64
       ≡ l.cells.log + l.reader.place % l.cells.log_words
-  cell_at other =
-      let low : l.reader.place < h.begin + l.cells.log_words =
-      (let before = h.before in let within = h.within in omega (arith, other)) in
-      place_is
-      ∙ ap (λ n. l.cells.log + n)
-      (sym (cell_of h.begin l.reader.place l.cells.log_words h.first h.behind low))
+  cell_at other = grind (arith, common_steps, place_is, cell_of)
 
   -- this round is over
   pub round_over : l.reader.place ≡ l.limit → l.reader.place ≢ l.reader.known
       → l.reader.place ≡ h.begin + l.cells.log_words
-  round_over over other = elim h.last [
-    | inl same ↦ absurd (other (over ∙ same))
-    | inr same ↦ over ∙ same
-  ]
+  round_over over other = grind (arith, common_steps)
 
   -- it has taken a word
   pub round_on : (r : LogReading) → l.reader.place ≢ l.limit → r.place ≡ l.reader.place + 1
       → r.known ≡ l.reader.known → GoesRound (record l { reader = r })
-  round_on r other place known = record {
-    room = h.room;
-    begin = h.begin;
-    first = h.first;
-    shift = h.shift;
-    behind = (let behind = h.behind in omega arith);
-    before = (let before = h.before in omega (arith, other));
-    known = (let most = h.known in omega arith);
-    within = h.within;
-    last = last_on h.last;
-  }
-    where
-      last_on : (l.limit ≡ l.reader.known) ⊎ (l.limit ≡ h.begin + l.cells.log_words)
-          → (l.limit ≡ r.known) ⊎ (l.limit ≡ h.begin + l.cells.log_words)
-      last_on (inl same) = inl (same ∙ sym known)
-      last_on (inr same) = inr same
+  round_on r other place known = grind (arith, common_steps)

@@ -1,8 +1,9 @@
 -- A batch that is not sent is kept: what turns leave of the messages that wait.
-use Rattle.std.proofs.Common.{◌≡◌, ℕ, ◌+◌, ◌==◌, Bool, true, false, cond, Option, Some, None, inl}
-use Rattle.std.proofs.Common.{inr, refl, sym, ◌∙◌, ap, subst, nat_le}
-use Rattle.std.specs.Prelude.{◌⊎◌, ◌/◌}
+use Rattle.std.proofs.Common.{◌≡◌, ℕ, Bool, true, false, cond, Option, Some, None, inl, refl, ◌∙◌}
+use Rattle.std.proofs.Common.{nat_le, arith}
+use Rattle.std.specs.Prelude.{◌⊎◌}
 use Rattle.std.proofs.lemmas.Bool.{true≢false}
+use Rattle.std.proofs.lemmas.Grind.{common_steps}
 use Rattle.bus_adoptcommit.specs.declared.verdicts.Verdict.{Verdict}
 use Rattle.bus_automaton.specs.Buses.{process_with}
 use Rattle.bus_tenure.specs.Classes.{is_last, is_refusal}
@@ -14,8 +15,6 @@ use Rattle.bus_batch.specs.declared.messages.Mark.TheVariants as mark
 use Rattle.bus_core.specs.Keeping.{queue_of}
 use Rattle.bus_core.specs.Senders.{Sender, Situation, Does, Announces, Validates, Unpins}
 use Rattle.bus_core.specs.Senders.{Withdraws, Scans, Clears, ReadsPassed, situation}
-use Rattle.bus_core.specs.Reusing.Passing.{passing_fed}
-use Rattle.bus_tenure.specs.Situations.{core_floored}
 use Rattle.bus_core.specs.Table.{line, seen}
 use Rattle.bus_core.specs.declared.reuses.Reuse.{Reuse}
 use Rattle.bus_machine.specs.Machine.{moved}
@@ -26,16 +25,14 @@ use Rattle.bus_tenure.specs.Core.{Core, Election, is_closing}
 use Rattle.bus_tenure.specs.Elections.{election_with}
 use Rattle.bus_tenure.specs.Situations.{IsClosed, IsIdle, IsSpent, LooksAtStage, Elects, TakesPage}
 use Rattle.bus_tenure.specs.Situations.{AwaitsPage, StoresWord, StoresLength, GivesBack, HasHanded}
-use Rattle.bus_tenure.specs.Situations.{waits, core_begun, core_elected, core_at_rest, answer_sent}
-use Rattle.bus_tenure.specs.Situations.{answer_of_return}
+use Rattle.bus_tenure.specs.Situations.{core_elected, core_at_rest, answer_sent, answer_of_return}
 use Rattle.bus_tenure.specs.declared.pages.Page.{Page}
-use Rattle.bus_tenure.specs.declared.phases.Phase.TheVariants as phase
 use Rattle.bus_tenure.specs.declared.phases.Reason.{Reason}
 use Rattle.bus_tenure.specs.declared.phases.Reason.TheVariants.{Sent, FoundEnd, NoRoom}
 use Rattle.bus_tenure.specs.declared.turns.Turn.{Turn}
 use Rattle.bus_tenure.specs.declared.turns.Turn.TheVariants as turn
 use Rattle.bus_world.specs.Turning.{core_with_page, after_step}
-use Rattle.bus_pageslot.specs.Seats.{SenderSeat, Took}
+use Rattle.bus_pageslot.specs.Seats.{SenderSeat}
 use Rattle.bus_pageslot.specs.Sendings.{waiting_of, KeptAfter}
 use Rattle.bus_pageslot.specs.Turns.{Tellings, Turned, TurnsOn, Here, More, Sends}
 use Rattle.bus_pageslot.proofs.Ruled.Processes.{queue_same}
@@ -70,28 +67,12 @@ module _ {E : Type 0} (X : Election E) (v : Sender E) where
   same_if false c d h k = k
 
   same_seen : (r : Option Reuse) (got : ℕ) → Same (seen X v.core r got).core
-  same_seen None got =
-      same_if (waits v.core got) v.core
-      (cond (nat_le v.core.layout.rows (got / 2)) (record v.core { least = got / 2 })
-      (core_begun X v.core (got / 2))) (refl, refl)
-      (same_if (nat_le v.core.layout.rows (got / 2)) (record v.core { least = got / 2 })
-      (core_begun X v.core (got / 2)) (refl, refl) (refl, refl))
-  same_seen (Some r) got =
-      same_if (waits v.core got) v.core
-      (cond (nat_le v.core.layout.rows (got / 2)) (record v.core { least = got / 2 }) v.core)
-      (refl, refl)
-      (same_if (nat_le v.core.layout.rows (got / 2)) (record v.core { least = got / 2 }) v.core
-      (refl, refl) (refl, refl))
+  same_seen None got = grind (arith, common_steps, same_if, nat_le)
+  same_seen (Some r) got = grind (arith, common_steps, same_if, nat_le)
 
   same_elected : (t : ℕ) (e : E) (o : Option ℕ) → Same (core_elected v.core t e o)
   same_elected t e None = (refl, refl)
-  same_elected t e (Some o) =
-      same_if (o == v.core.me) (record v.core { phase = phase.Electing t e })
-      (record v.core {
-        queue = record v.core.queue { busy = false };
-        least = t + 1;
-        phase = phase.Resting;
-      }) (refl, refl) (refl, refl)
+  same_elected t e (Some o) = grind (arith, common_steps, same_if)
 
   same_with_page : (c : Core E) → Same c → (t : ℕ) (home : Option Page)
       → Same (core_with_page c t home)
@@ -101,36 +82,16 @@ module _ {E : Type 0} (X : Election E) (v : Sender E) where
   -- the page is given back with its frame in the log, and the batch goes with it
   sent : (t : ℕ) (ph : BatchPhase) → v.core.queue.phase ≡ ph
       → IsLeft v.core.queue (answer_sent v.core.queue t ph) (core_at_rest v.core Sent t).queue
-  sent t Open e = (
-    λ going. absurd (true≢false going),
-    λ full. absurd (true≢false (ap is_full (sym full))),
-    λ refused. absurd (true≢false (sym refused)),
-  )
-  sent t (Marking mark.End) e = (
-    λ going. absurd (true≢false going),
-    λ full. absurd (true≢false (ap is_full (sym full))),
-    λ refused. inr (refl, ap is_closing e),
-  )
-  sent t (Marking mark.Leave) e = (
-    λ going. absurd (true≢false going),
-    λ full. absurd (true≢false (ap is_full (sym full))),
-    λ refused. absurd (true≢false (sym refused)),
-  )
-  sent t Closed e = (
-    λ going. absurd (true≢false going),
-    λ full. absurd (true≢false (ap is_full (sym full))),
-    λ refused. absurd (true≢false (sym refused)),
-  )
+  sent t Open e = grind (arith, common_steps, true≢false)
+  sent t (Marking mark.End) e = grind (arith, common_steps, true≢false)
+  sent t (Marking mark.Leave) e = grind (arith, common_steps, true≢false)
+  sent t Closed e = grind (arith, common_steps, true≢false)
 
   given : (t : ℕ) (reason : Reason)
       → IsLeft v.core.queue (answer_of_return v.core.queue t reason)
       (core_at_rest v.core reason t).queue
   given t Sent = sent t v.core.queue.phase refl
-  given t FoundEnd = (
-    λ going. absurd (true≢false going),
-    λ full. absurd (true≢false (ap is_full (sym full))),
-    λ refused. inl refl,
-  )
+  given t FoundEnd = grind (arith, common_steps, true≢false)
   given t NoRoom = (λ going. (refl, refl), λ full. (refl, refl), λ refused. inl refl)
 
   abbrev After : Situation E → Option Page → ℕ → ℕ → Type 0
@@ -141,9 +102,7 @@ module _ {E : Type 0} (X : Election E) (v : Sender E) where
   stays : (s : Situation E) (home : Option Page) (got word : ℕ)
       → Same (moved (after_step (line X v s).move) home ((line X v s).fed got word)).core
       → After s home got word
-  stays s home got word h =
-      stays_left v.core.queue ((line X v s).answer got word)
-      (moved (after_step (line X v s).move) home ((line X v s).fed got word)).core.queue h
+  stays s home got word h = grind (arith, common_steps, stays_left)
 
   left_by : (s : Situation E) (home : Option Page) (got word : ℕ) → After s home got word
   left_by (Does IsClosed) home got word = stays (Does IsClosed) home got word (refl, refl)
@@ -153,9 +112,7 @@ module _ {E : Type 0} (X : Election E) (v : Sender E) where
       stays (Does LooksAtStage) home got word (same_seen v.reuse got)
   left_by (Does (Elects t e)) home got word = stays (Does (Elects t e)) home got word
       (same_elected t (X.fed e got word) (X.owner (X.fed e got word)))
-  left_by (Does (TakesPage t)) home got word =
-      stays (Does (TakesPage t)) home got word
-      (same_with_page (record v.core { phase = phase.Taken t }) (refl, refl) t home)
+  left_by (Does (TakesPage t)) home got word = grind (arith, common_steps, stays, same_with_page)
   left_by (Does (AwaitsPage t)) home got word =
       stays (Does (AwaitsPage t)) home got word (same_with_page v.core (refl, refl) t home)
   left_by (Does (StoresWord t page stored)) home got word =
@@ -165,17 +122,12 @@ module _ {E : Type 0} (X : Election E) (v : Sender E) where
   left_by (Does (GivesBack t page reason)) home got word = given t reason
   left_by (Does (HasHanded t reason)) home got word = given t reason
   left_by (Announces t) home got word = stays (Announces t) home got word (refl, refl)
-  left_by (Validates t) home got word =
-      stays (Validates t) home got word
-      (same_if (got / 2 == t) (core_begun X v.core t) v.core (refl, refl) (refl, refl))
+  left_by (Validates t) home got word = grind (arith, common_steps, stays, same_if)
   left_by (Unpins t) home got word = stays (Unpins t) home got word (refl, refl)
   left_by (Withdraws t) home got word = stays (Withdraws t) home got word (refl, refl)
   left_by (Scans s) home got word = stays (Scans s) home got word (refl, refl)
   left_by (Clears s) home got word = stays (Clears s) home got word (refl, refl)
-  left_by (ReadsPassed t p) home got word =
-      stays (ReadsPassed t p) home got word
-      (same_if ((passing_fed p got).loaded == v.core.layout.passers)
-      (core_floored v.core (passing_fed p got).least) v.core (refl, refl) (refl, refl))
+  left_by (ReadsPassed t p) home got word = grind (arith, common_steps, stays, same_if)
 
 -- ---- a process whose steps leave this of its batch
 abbrev pub LeavesBatch : {C : Type 0} → Process C → Type 0
@@ -186,14 +138,7 @@ LeavesBatch {C} P =
 left_as : (q k q' k' : Pending) (a : Turn) → q.messages ≡ k.messages
     → is_closing q.phase ≡ is_closing k.phase → q'.messages ≡ k'.messages
     → is_closing q'.phase ≡ is_closing k'.phase → IsLeft k a k' → IsLeft q a q'
-left_as q k q' k' a m p m' p' h = (
-  λ going. let s = h.0 going in (m' ∙ s.0 ∙ sym m, p' ∙ s.1 ∙ sym p),
-  λ full. let s = h.1 full in (m' ∙ s.0 ∙ sym m, p' ∙ s.1 ∙ sym p),
-  λ refused. elim (h.2 refused) [
-    | inl same ↦ inl (m' ∙ same ∙ sym m)
-    | inr ends ↦ inr (ends.0, p ∙ ends.1)
-  ],
-)
+left_as q k q' k' a m p m' p' h = grind (arith, common_steps)
 
 pub leaves_batch : {S : Type 0} (kind_of : S → Option Kind) (op : S → ℕ → Option Op)
     (fed : S → ℕ → ℕ → S) (Q : Protocol S Bool Verdict)
@@ -219,20 +164,7 @@ module _ {C : Type 0} (P : Process C) (T : Tellings C) (L : LeavesBatch P) where
   pub turned_left : (old : SenderSeat C) (word : ℕ) (a : Turn) (new : SenderSeat C)
       → Turned P T old word a new
       → IsLeft (P.queue old.core) a (P.queue new.core)
-  turned_left old word a new h = by_step (P.op old.core word) refl
-    where
-      by_step : (o : Option Op) → P.op old.core word ≡ o
-          → IsLeft (P.queue old.core) a (P.queue new.core)
-      by_step None e =
-          let same = (h.rests e).0 in
-          stays_left (P.queue old.core) a (P.queue new.core) (
-            ap (λ s. (P.queue s.core).messages) same,
-            ap (λ s. is_closing (P.queue s.core).phase) same,
-          )
-      by_step (Some op) e =
-          let took : Took P old word a new = (h.steps op e).took in
-          subst (λ (y : Turn × C). IsLeft (P.queue old.core) y.0 (P.queue y.1))
-          (λ i. (sym took.answer i, sym took.core i)) (L old.core took.home took.got word)
+  turned_left old word a new h = grind (arith, common_steps, stays_left)
 
   turns_stay : (first new : SenderSeat C) → TurnsOn P T first new → Waits first new
   turns_stay first _ Here = (refl, refl)
@@ -251,9 +183,4 @@ module _ {C : Type 0} (P : Process C) (T : Tellings C) (L : LeavesBatch P) where
   -- .. and so does a refusal after them
   pub refused_keeps : (first : SenderSeat C) (a : Turn) (new : SenderSeat C) → Sends P T first a new
       → is_refusal a ≡ true → KeptAfter P first a new
-  refused_keeps first a new h refused =
-      let before = turns_stay first h.old h.before in
-      elim ((turned_left h.old h.word a new h.turned).2 refused) [
-        | inl same ↦ inl (same ∙ before.0)
-        | inr ends ↦ inr (ends.0, sym before.1 ∙ ends.1)
-      ]
+  refused_keeps first a new h refused = grind (arith, common_steps, turns_stay, turned_left)

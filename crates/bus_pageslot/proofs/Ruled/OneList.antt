@@ -4,6 +4,7 @@ use Rattle.std.proofs.Common.{◌≡◌, ◌⊎◌, ℕ, ◌<◌, ◌≤◌, fal
 use mathlib.Core.Option.{some}
 use lib.ListN.{get_elem?}
 use Rattle.std.proofs.lemmas.Bool.{cases_lt}
+use Rattle.std.proofs.lemmas.Grind.{common_steps}
 use Rattle.atomic_table.specs.Table.{State}
 use Rattle.bus_tenure.specs.declared.pages.Page.{Page}
 use Rattle.bus_automaton.specs.Lawful.{AutomatonLaws, floor_in}
@@ -38,10 +39,7 @@ module _ {C : Type 0} (P : Process C) (A : Automaton C) (L : AutomatonLaws P A)
       ⊎ ((j : ℕ) × (v : View C) × (e : ReceiverView) × (get_elem? s.views j ≡ some v)
       × ShowsReceiver e v × (floor_in A.table_layout s.words ≤ length e.known)))
   known_low (inl flat) = inl flat
-  known_low (inr (j, v, e, at, is, stays)) = elim (cases_lt 0 A.table_layout.passers) [
-    | inl any ↦ inr (inr (j, v, e, at, is, knows_floor any j v e at is stays))
-    | inr none ↦ inl (omega arith)
-  ]
+  known_low (inr (j, v, e, at, is, stays)) = grind (arith, common_steps, cases_lt, knows_floor)
 
   pub one_list : (A.table_layout.passers ≡ 0) ⊎ Shown → log_in A r.state ≡ log_in A q.state
   one_list seen = one_log P A.table_layout (base_in A) (log_in A r.state) s (log_in A q.state)

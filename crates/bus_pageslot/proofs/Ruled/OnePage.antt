@@ -17,11 +17,12 @@ use Rattle.std.proofs.Common.{
   arith,
   sym,
 }
-use Rattle.std.proofs.Common.{◌∙◌, ◌++◌, ap, drop, length, slice_index, subst, take}
+use Rattle.std.proofs.Common.{◌∙◌, ◌++◌, ap, drop, length, slice_index, subst, take, arith}
 use mathlib.Core.Option.{some, some-injective, some-ne-none}
 use lib.ListN.{get_elem?}
 use Rattle.std.proofs.lemmas.Bool.{cases_lt}
 use Rattle.std.proofs.lemmas.List.{take-append-drop, take-append-le}
+use Rattle.std.proofs.lemmas.Grind.{common_steps}
 use Rattle.atomic_table.specs.Table.{State}
 use Rattle.bus_batch.proofs.FrameLaws.{spells_one}
 use Rattle.bus_batch.specs.Frames.{Spells}
@@ -34,7 +35,7 @@ use Rattle.bus_pageslot.specs.declared.rule.View.TheVariants.{Maker, Sender, Tap
 use Rattle.bus_pageslot.specs.declared.rule.View.TheVariants.{Spent}
 use Rattle.bus_pageslot.specs.ReceiverViews.{ReceiverView}
 use Rattle.bus_pageslot.specs.Rings.{ShowsReceiver}
-use Rattle.bus_pageslot.specs.Rule.{Seats, TableInvariant}
+use Rattle.bus_pageslot.specs.Rule.{TableInvariant}
 use Rattle.bus_automaton.specs.Lawful.{floor_in}
 use Rattle.bus_automaton.specs.Processes.{TableLayout, Process, Automaton}
 use Rattle.bus_pageslot.specs.Promised.{Fits, ShowsActions, IsPromised}
@@ -132,17 +133,10 @@ module _ {C : Type 0} (P : Process C) (x : TableLayout) (base : ℕ → ℕ) (lo
         (subst (λ (vs : List (View C)). get_elem? vs j ≡ some v) is at)
 
     pub no_page : ¬ IsPromised P x base log s
-    no_page r =
-        let h = r.shown 1 many in
-        let one : (P.me c ≡ 1) × (r.actions 1 ≡ sender_trail.actions) =
-        subst (ShowsActions P 1 (r.actions 1)) (sym (only h.0 h.1 h.2)) h.3 in
-        let wrong = one.0 in omega arith
+    no_page r = grind (arith, only)
 
 pub no_bus : {C : Type 0} (P : Process C) (A : Automaton C) (s : State (Option Page) (View C))
     → 1 < A.table_layout.senders → (c : C) (sender_trail : SenderTrail) (notes : Notes) → P.me c ≡ 0
     → s.views ≡ Sender c sender_trail notes ∷ [] → ¬ TableInvariant P A s
 no_bus {C} P A s many c sender_trail notes me is r =
-    let h = r.all 1 many in
-    let only : Sender c sender_trail notes ≡ h.1 = the_one (Sender c sender_trail notes) h.1 h.0
-    (subst (λ (vs : List (View C)). get_elem? vs h.0 ≡ some h.1) is h.2) in
-    let one : P.me c ≡ 1 = subst (Seats P 1) (sym only) h.3 in omega arith
+    grind (arith, common_steps, the_one, get_elem?, some)

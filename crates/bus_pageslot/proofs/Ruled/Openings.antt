@@ -9,6 +9,7 @@ use Rattle.std.proofs.lemmas.Bool.{cases_eq, cases_lt}
 use Rattle.std.proofs.lemmas.List.{length-append}
 use Rattle.std.proofs.lemmas.Option.{same_Some, slice_get_within, slice_get-get_or}
 use Rattle.std.specs.Prelude.{All}
+use Rattle.std.proofs.lemmas.Grind.{common_steps}
 use Rattle.atomic_table.specs.declared.shared.Seat.{Seat}
 use Rattle.atomic_table.specs.Table.{State, Splits, opening}
 use Rattle.atomic_table.proofs.Lists.{at_set}
@@ -25,12 +26,11 @@ use Rattle.bus_pageslot.specs.declared.rule.View.TheVariants.{Spent}
 use Rattle.bus_automaton.specs.Processes.{TableLayout, Process, Automaton, IsCounted, base_in}
 use Rattle.bus_automaton.specs.Processes.{log_in}
 use Rattle.bus_automaton.specs.Lawful.{AutomatonLaws, Opens}
-use Rattle.bus_pageslot.specs.Rule.{slot_of, Sat, tap_left, tap_right, sender_trail_in, notes_in}
-use Rattle.bus_pageslot.specs.Rule.{cut_left, cut_right, Ear, Unmade, Made, IsUnheard, KnowsLog}
-use Rattle.bus_pageslot.specs.Rule.{IsTrueOf}
+use Rattle.bus_pageslot.specs.Rule.{slot_of, Sat, tap_left, tap_right, sender_trail_in, cut_left}
+use Rattle.bus_pageslot.specs.Rule.{cut_right, Ear, Unmade, Made, IsUnheard, KnowsLog, IsTrueOf}
 use Rattle.bus_pageslot.specs.Rule.{Seats, SeatsReceiver, SeatsStaying, TableInvariant}
 use Rattle.bus_pageslot.specs.Lasting.{LeavesViews}
-use Rattle.bus_pageslot.specs.Steps.{Numbers, carried_of}
+use Rattle.bus_pageslot.specs.Steps.{Numbers}
 use Rattle.bus_pageslot.specs.Steps.Accepts.{Nothing}
 use Rattle.bus_pageslot.specs.Seats.{SenderSeat, ReceiverSeat, Shows, table_of}
 use Rattle.bus_pageslot.specs.Buses.{IsNewSeat, AreNewSeats, IsNewTap, AreNewTaps}
@@ -55,16 +55,8 @@ knows_new : {C : Type 0} (A : Automaton C) (z : A.State) (ear : ℕ → Ear) (j 
     → (frames : List Frame) → AreFrames A.table_layout.senders frames
     → log_words frames ≡ log_in A z → Listens A z ear j (new_receiver_view me)
     → KnowsLog A z ear j x (new_receiver_view me)
-knows_new A z ear j me x table_layout frames lawful words listens = record {
-  table_layout = table_layout;
-  front = record { rest = log_in A z; together = refl };
-  below = omega arith;
-  frames = frames;
-  lawful = lawful;
-  words_are = words;
-  heard = heard_new frames me;
-  listens = listens;
-}
+knows_new A z ear j me x table_layout frames lawful words listens =
+    grind (arith, common_steps, heard_new)
 
 module _ {C : Type 0} (P : Process C) (A : Automaton C) (L : AutomatonLaws P A) where
   abbrev first : View C
@@ -73,16 +65,7 @@ module _ {C : Type 0} (P : Process C) (A : Automaton C) (L : AutomatonLaws P A) 
   module _ (o : Opens P A) where
     only : (j : ℕ) (v : View C) → get_elem? (first ∷ []) j ≡ some v
         → IsTrueOf P A o.state (λ p. 0) (λ r. Unmade 0) j v
-    only zero v e =
-        subst (IsTrueOf P A o.state (λ p. 0) (λ r. Unmade 0) 0) (some-injective first v e) (
-          refl,
-          λ p low high. record {
-            here = refl;
-            core = o.senders p high;
-            sender_trail_is = o.sender_trail p;
-          },
-          λ r low high. record { here = refl; passed = o.passed r high },
-        )
+    only zero v e = grind (arith, common_steps, some-injective)
     only (suc j) v e = absurd (some-ne-none v (sym e))
 
     pub opens : (ws : List ℕ) → ws ≡ replicate A.table_layout.words 0
@@ -108,34 +91,11 @@ module _ {C : Type 0} (P : Process C) (A : Automaton C) (L : AutomatonLaws P A) 
 
     cut_others : (v : View C) → IsTrueOf P A z seat ear j v
         → IsTrueOf P A z (put k count seat) ear j v
-    cut_others (Maker x made) h = (
-      h.0,
-      λ q low high.
-          let u = h.1 q low high in
-          record {
-            here = seats_still q u.here;
-            core = u.core;
-            sender_trail_is = u.sender_trail_is;
-          },
-      h.2,
-    )
-    cut_others (Sender c t notes) h = record {
-      here = seats_still (P.me c) h.here;
-      core = h.core;
-      sender_trail_is = h.sender_trail_is;
-      reached = h.reached;
-    }
+    cut_others (Maker x made) h = grind (arith, common_steps, seats_still)
+    cut_others (Sender c t notes) h = grind (arith, common_steps, seats_still)
     cut_others (Tap x e) h = h
     cut_others (Meeting x e y f) h = h
-    cut_others (Telling c t notes x e) h = (
-      record {
-        here = seats_still (P.me c) h.0.here;
-        core = h.0.core;
-        sender_trail_is = h.0.sender_trail_is;
-        reached = h.0.reached;
-      },
-      h.1,
-    )
+    cut_others (Telling c t notes x e) h = grind (arith, common_steps, seats_still)
     cut_others Spent h = tt
 
   -- a seat for one more sender
@@ -176,31 +136,8 @@ module _ {C : Type 0} (P : Process C) (A : Automaton C) (L : AutomatonLaws P A) 
               seen_parted (SeatsStaying q) s.views id (Maker x made) left right at
               (λ is. inl (omega arith)) (r.all_staying q n is);
           views = λ j v e. elim (at_end (set s.views id left) right v j e) [
-            | inl u ↦ ⊎_elim
-                (λ (y : (j ≡ id) × (left ≡ v)). subst
-                (λ (z : ℕ × View C). IsTrueOf P A r.state seat r.ear z.0 z.1)
-                (λ i. (sym y.0 i, y.1 i)) (
-                  old.0,
-                  λ q low high.
-                      let w = old.1 q (omega arith) high in
-                      record {
-                        here = put_beside made count r.seat q (λ y. omega (arith, y)) ∙ w.here;
-                        core = w.core;
-                        sender_trail_is = w.sender_trail_is;
-                      },
-                  λ q low high. old.2 q (omega arith) high,
-                ))
-                (λ (y : (j ≢ id) × (get_elem? s.views j ≡ some v)).
-                cut_others r.state r.seat r.ear made id count mine.here j y.0 v (r.views j v y.1))
-                (at_set s.views id j left v u)
-            | inr u ↦ subst (λ (z : ℕ × View C). IsTrueOf P A r.state seat r.ear z.0 z.1)
-                (λ i. (sym (u.0 ∙ length-set s.views id left) i, u.1 i))
-                (record {
-                  here = ap seat me ∙ put_here made count r.seat;
-                  core = ap (A.sender r.state) me ∙ mine.core;
-                  sender_trail_is = ap (A.sender_trail r.state) me ∙ mine.sender_trail_is;
-                  reached = omega arith;
-                })
+            | inl u ↦ grind (arith, put_beside, some, cut_others, at_set)
+            | inr u ↦ grind (arith, common_steps, length-set, put_here)
           ];
         };
         log = refl;
@@ -262,18 +199,8 @@ module _ {C : Type 0} (P : Process C) (A : Automaton C) (L : AutomatonLaws P A) 
                 ])
                 (r.all_staying q p is);
             views = λ j v e. elim (at_end (set s.views id left) tap v j e) [
-              | inl u ↦ ⊎_elim
-                  (λ (y : (j ≡ id) × (left ≡ v)). subst
-                  (λ (z : ℕ × View C). IsTrueOf P A r.state r.seat ear' z.0 z.1)
-                  (λ i. (sym y.0 i, y.1 i))
-                  (old.0, (λ q low high. old.1 q (omega arith) high), unheard))
-                  (λ (y : (j ≢ id) × (get_elem? s.views j ≡ some v)).
-                  others j y.0 v (r.views j v y.1))
-                  (at_set s.views id j left v u)
-              | inr u ↦ subst (λ (z : ℕ × View C). IsTrueOf P A r.state r.seat ear' z.0 z.1)
-                  (λ i. (sym (u.0 ∙ length-set s.views id left) i, u.1 i))
-                  (knows_new A r.state ear' (length s.views) number x old.0 log.frames log.lawful
-                  log.words_are listens)
+              | inl u ↦ grind (arith, old, some, at_set)
+              | inr u ↦ grind (arith, common_steps, length-set, knows_new, length, old)
             ];
           };
           log = refl;
@@ -331,16 +258,8 @@ shows_new {C} P A L o k below c s is me words slots =
           (λ i. (sym is i, sym (ap (λ (m : Sat C). sender_trail_in m.0) now) i))
           (numbers_next P A L o.state o.reached k (A.started k) (L.started_me k) (o.senders k below)
           (new_sender_trail (base_in A k)) (o.sender_trail k));
-      me =
-          now
-          ∙ (λ i. (
-            Sender c (sender_trail_in (sym now i).0) (notes_in (sym now i).0),
-            carried_of (sym away i),
-          ));
-      words =
-          words
-          ∙ ap (λ (x : TableLayout). x.words)
-          (sym (ap P.table_layout is ∙ L.started_table_layout k));
+      me = cc;
+      words = grind (arith, common_steps);
       slots = slots;
     }
 
@@ -354,13 +273,7 @@ one_more P A table many senders s h new = record {
       let size = length-append senders (s ∷ []) in
       elim (cases_lt p (length senders)) [
         | inl l ↦ h.each p y (sym (push_beside senders s p (λ i. absurd (omega arith))) ∙ e)
-        | inr l ↦
-            let here : p ≡ length senders = omega arith in
-            subst (λ z. IsNewSeat P A table z y) (sym here)
-            (subst (IsNewSeat P A table (length senders))
-            (same_Some _ _ (sym (push_here senders s (length senders) refl)
-            ∙ ap (slice_get (senders ++ s ∷ [])) (sym here) ∙ e))
-            (subst (λ z. IsNewSeat P A table z s) (sym h.many_are) new))
+        | inr l ↦ grind (arith, common_steps, length, same_Some, push_here, slice_get)
       ];
 }
 
@@ -374,12 +287,7 @@ one_more_tap x table many taps t h new = record {
       let size = length-append taps (t ∷ []) in
       elim (cases_lt r (length taps)) [
         | inl l ↦ h.each r y (sym (push_beside taps t r (λ i. absurd (omega arith))) ∙ e)
-        | inr l ↦
-            let here : r ≡ length taps = omega arith in
-            subst (λ z. IsNewTap x table z y) (sym (here ∙ h.many_are))
-            (subst (IsNewTap x table many) (same_Some _ _
-            (sym (push_here taps t (length taps) refl) ∙ ap (slice_get (taps ++ t ∷ [])) (sym here)
-            ∙ e)) new)
+        | inr l ↦ grind (arith, common_steps, length, same_Some, push_here, slice_get)
       ];
 }
 

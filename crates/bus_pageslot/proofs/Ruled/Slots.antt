@@ -1,10 +1,9 @@
 -- What a step does to the slot of the page.
-use Rattle.std.proofs.Common.{◌≡◌, ℕ, Option, Some, List, [], ◌∷◌, refl, sym, ◌∙◌, ap, set}
+use Rattle.std.proofs.Common.{◌≡◌, ℕ, Option, Some, List, [], ◌∷◌, refl, ap, set, arith}
+use Rattle.std.proofs.lemmas.Grind.{common_steps}
 use mathlib.Core.Option.{some, none}
 use mathlib.Core.Option as maybe
-use lib.ListN.{get_elem?}
-use Rattle.atomic_table.specs.Table.{Act, keeps, takes, gives, Valid, homes_after, carried_after}
-use Rattle.atomic_table.specs.Table.{put_back}
+use Rattle.atomic_table.specs.Table.{Act, keeps, takes, Valid, homes_after, carried_after}
 use Rattle.bus_tenure.specs.Situations.{PageMove, Stays, Comes, Returns}
 use Rattle.bus_tenure.specs.declared.pages.Page.{Page}
 use Rattle.bus_world.specs.Turning.{home_moved}
@@ -26,18 +25,8 @@ module _ (home : Option Page) (homes : List (maybe.Option (Option Page)))
   moves Stays out taken = record { act = keeps; valid = tt; homes_now = slot; carried_now = refl }
   moves (Comes t) out taken = let page = taken t refl in record {
     act = takes 0 home;
-    valid =
-        ap (λ (hs : List (maybe.Option (Option Page))). get_elem? hs 0)
-        (slot ∙ ap (λ (h : Option Page). slot_of h ∷ []) page.1)
-        ∙ ap (λ (h : Option Page). some (some h)) (sym page.1);
+    valid = cc;
     homes_now = ap (λ (hs : List (maybe.Option (Option Page))). set hs 0 none) slot;
     carried_now = refl;
   }
-  moves (Returns t reason page) out taken = record {
-    act = gives;
-    valid = tt;
-    homes_now =
-        ap (put_back homes) out
-        ∙ ap (λ (hs : List (maybe.Option (Option Page))). set hs 0 (some (Some page))) slot;
-    carried_now = refl;
-  }
+  moves (Returns t reason page) out taken = grind (arith, common_steps, set, some)

@@ -1,12 +1,12 @@
 -- How what leads to a state becomes the rule of the table: each step of a sender is allowed.
 use Rattle.std.proofs.Common.{◌≡◌, ◌≢◌, ℕ, ◌<◌, ◌≤◌, ◌==◌, cond, eq-eqb, ne_eqb, is_some, Option}
-use Rattle.std.proofs.Common.{Some, List, [], ◌∷◌, ◌++◌, length, set, slice_index, slice_set}
-use Rattle.std.proofs.Common.{arith, refl, sym, ◌∙◌, ap, subst, ⊎_elim, inl, inr}
+use Rattle.std.proofs.Common.{Some, List, [], ◌∷◌, length, set, slice_index, slice_set, arith}
+use Rattle.std.proofs.Common.{refl, sym, ◌∙◌, ap, subst, ⊎_elim, inl, inr}
 use mathlib.Core.Option.{some, none}
 use mathlib.Core.Option as maybe
 use lib.ListN.{get_elem?}
 use Rattle.std.proofs.lemmas.Bool.{cases_eq}
-use Rattle.std.proofs.lemmas.Grind.{flat_map-append}
+use Rattle.std.proofs.lemmas.Grind.{flat_map-append, common_steps}
 use Rattle.std.proofs.lemmas.List.{length-append, get_or-set_same}
 use Rattle.std.proofs.lemmas.Option.{same_Some}
 use Rattle.atomic_table.specs.Table.{State, Act, Allows, Valid, homes_after, carried_after}
@@ -15,7 +15,7 @@ use Rattle.bus_register.specs.declared.registers.Op.{Op}
 use Rattle.bus_register.specs.declared.registers.Op.TheVariants.{Load, Store, Add, Cas}
 use Rattle.bus_register.specs.declared.registers.Reg.{Reg}
 use Rattle.bus_register.specs.Words.{register, after, SumFits}
-use Rattle.bus_batch.specs.Frames.{frame_words, log_words}
+use Rattle.bus_batch.specs.Frames.{log_words}
 use Rattle.bus_batch.proofs.FrameLaws.{same_log}
 use Rattle.bus_machine.proofs.Frames.Paging.{some_is}
 use Rattle.bus_tenure.specs.Situations.{Comes}
@@ -24,7 +24,7 @@ use Rattle.bus_world.specs.Headline.{IsPrefix}
 use Rattle.bus_world.specs.Turning.{words_after, home_moved}
 use Rattle.bus_world.proofs.Growing.{prefix_after}
 use Rattle.bus_pageslot.specs.Notes.{Notes}
-use Rattle.bus_pageslot.specs.ReceiverViews.{ReceiverView, HasHeard}
+use Rattle.bus_pageslot.specs.ReceiverViews.{ReceiverView}
 use Rattle.bus_pageslot.specs.declared.rule.View.{View}
 use Rattle.bus_pageslot.specs.declared.rule.View.TheVariants.{Maker, Sender, Tap, Meeting, Telling}
 use Rattle.bus_pageslot.specs.declared.rule.View.TheVariants.{Spent}
@@ -36,7 +36,7 @@ use Rattle.bus_pageslot.specs.Rule.{Ear, KnowsLog, IsTrueOf, Seats, SeatsReceive
 use Rattle.bus_pageslot.specs.Rule.{TableInvariant}
 use Rattle.bus_pageslot.proofs.Hears.Loads.{Listens}
 use Rattle.bus_pageslot.specs.Steps.{all_in, since_in, stored_by, noted_by, Told, Gone, IsDue}
-use Rattle.bus_automaton.specs.SenderTrails.{SenderTrail, with_actions, with_sender_trail}
+use Rattle.bus_automaton.specs.SenderTrails.{SenderTrail, with_sender_trail}
 use Rattle.bus_pageslot.proofs.SeatSteps.Accepting.{since_is}
 use Rattle.bus_pageslot.proofs.Ruled.AllSeats.{still_seen}
 use Rattle.bus_pageslot.proofs.Hears.Hearing.{heard_later}
@@ -50,18 +50,10 @@ no_shorter xs ys p = let a = length-append xs p.rest in let b = ap length p.toge
 -- ---- a log that grows
 module _ {C : Type 0} (A : Automaton C) (z z' : A.State) (g : LogGrows A z z') where
   pub front : IsPrefix (log_in A z) (log_in A z')
-  front = record {
-    rest = log_words g.more;
-    together =
-        ap (λ l. l ++ log_words g.more) (sym g.words_are)
-        ∙ sym (flat_map-append frame_words g.frames g.more) ∙ g.words_now;
-  }
+  front = grind (arith, common_steps, flat_map-append)
 
   pub longer : slice_index (A.words z) 0 ≤ slice_index (A.words z') 0
-  longer =
-      let l = no_shorter (log_in A z) (log_in A z') front in
-      let u = g.long in let v = g.long_now in
-      omega arith
+  longer = grind (arith, common_steps, no_shorter, front)
 
 -- the views of the others stay true where the sender p, whose seat is id, is replaced
 module _ {C : Type 0} (P : Process C) (A : Automaton C) (z z' : A.State) (seat : ℕ → ℕ)
@@ -74,29 +66,14 @@ module _ {C : Type 0} (P : Process C) (A : Automaton C) (z z' : A.State) (seat :
 
   seated_still : (c : C) (t : SenderTrail) (stored : ℕ) → IsSeated P A z seat j c t stored
       → IsSeated P A z' seat j c t stored
-  seated_still c t stored h = record {
-    here = h.here;
-    core = on.others (P.me c) (apart (P.me c) h.here) ∙ h.core;
-    sender_trail_is = on.nothing_else (P.me c) (apart (P.me c) h.here) ∙ h.sender_trail_is;
-    reached = let a = h.reached in let l = longer A z z' g in omega arith;
-  }
+  seated_still c t stored h = grind (arith, common_steps, apart, longer)
 
   unseated_still : (q : ℕ) → IsUnseated A z seat j q → IsUnseated A z' seat j q
-  unseated_still q h = record {
-    here = h.here;
-    core = on.others q (apart q h.here) ∙ h.core;
-    sender_trail_is = on.nothing_else q (apart q h.here) ∙ h.sender_trail_is;
-  }
+  unseated_still q h = grind (arith, common_steps, apart)
 
   listens_still : (e : ReceiverView) → Listens A z ear j e → Listens A z' ear j e
   listens_still e (inl flat) = inl flat
-  listens_still e (inr l) = inr record {
-    here = l.here;
-    made = l.made;
-    below = l.below;
-    shown = λ stays. on.passed e.me ∙ l.shown stays;
-    past = l.past;
-  }
+  listens_still e (inr l) = grind (arith, common_steps)
 
   log_still : (x : TableLayout) (e : ReceiverView) → KnowsLog A z ear j x e
       → KnowsLog A z' ear j x e
@@ -107,26 +84,10 @@ module _ {C : Type 0} (P : Process C) (A : Automaton C) (z z' : A.State) (seat :
       (let a = h.below in
       let l = no_shorter e.known (log_in A z) h.front in
       let w = ap length g.words_are in omega arith) in
-      record {
-        table_layout = h.table_layout;
-        front = prefix_after e.known (log_in A z) (log_in A z') h.front (front A z z' g);
-        below = h.below;
-        frames = g.frames ++ g.more;
-        lawful = g.lawful_now;
-        words_are = g.words_now;
-        heard = heard_later g.frames e (subst (λ fs. HasHeard fs e) same h.heard) g.more read;
-        listens = listens_still e h.listens;
-      }
+      grind (arith, common_steps, prefix_after, front, heard_later, listens_still)
 
   pub others_know : (v : View C) → IsTrueOf P A z seat ear j v → IsTrueOf P A z' seat ear j v
-  others_know (Maker x made) h = (
-    h.0,
-    (λ q low high. unseated_still q (h.1 q low high)),
-    λ q low high. record {
-      here = (h.2 q low high).here;
-      passed = on.passed q ∙ (h.2 q low high).passed;
-    },
-  )
+  others_know (Maker x made) h = grind (arith, common_steps, unseated_still)
   others_know (Sender c t notes) h = seated_still c t notes.stored h
   others_know (Tap x e) h = log_still x e h
   others_know (Meeting x e y f) h = (log_still x e h.0, log_still y f h.1, h.2)
@@ -191,16 +152,8 @@ tie {C} P A s r id c d t t' notes notes' words homes z' on grows long at same wo
 store_long : (at : Reg) (value : ℕ) (words : List ℕ) (before now : ℕ) → at.0 < length words
     → now ≡ slice_index (slice_set words at.0 value) 0 → before ≤ now
     → cond (at.0 == 0) value before ≤ now
-store_long at value words before now within is l = elim (cases_eq at.0 0) [
-  | inl e ↦ (
-      let room : 0 < length words = omega arith in
-      let here : slice_index (slice_set words at.0 value) 0 ≡ value =
-      ap (λ r. slice_index (slice_set words r value) 0) e ∙ get_or-set_same words 0 value 0 room in
-      subst (λ b. cond b value before ≤ now) (sym (eq-eqb at.0 0 e))
-      (let same : now ≡ value = is ∙ here in omega arith)
-      )
-  | inr ne ↦ subst (λ b. cond b value before ≤ now) (sym (ne_eqb at.0 0 ne)) l
-]
+store_long at value words before now within is l =
+    grind (arith, cases_eq, length, slice_index, slice_set, get_or-set_same, eq-eqb, ne_eqb)
 
 stored_long : (o : Op) (words : List ℕ) (before now : ℕ) → register o < length words
     → now ≡ slice_index (words_after words (Some o)) 0 → before ≤ now
@@ -248,9 +201,7 @@ module _ {C : Type 0} (P : Process C) (A : Automaton C) (K : ProcessLaws P)
     same_words = r.words ∙ sym grown.words
 
     within : register o < A.table_layout.words
-    within =
-        let is = L.senders z p d grown.changes.reached grown.changes.here in
-        subst (λ (x : TableLayout). register o < x.words) is.table_layout due.below
+    within = grind (arith, grown, register)
 
     -- with its step
     done : StepsIn P A z p d word o
@@ -266,16 +217,10 @@ module _ {C : Type 0} (P : Process C) (A : Automaton C) (K : ProcessLaws P)
     d_now = P.after d (A.home r.state) (g n) word
 
     d_is : d_now ≡ P.after d (A.home z) (slice_index (A.words z) (register o)) word
-    d_is =
-        blind n (A.home r.state) ∙ ap (λ h. P.after d h n word) (sym grown.home)
-        ∙ ap (λ k. P.after d (A.home z) k word) n_is
+    d_is = grind (arith, common_steps, grown, n_is)
 
     words_now : slice_set s.words (register o) (f n) ≡ A.words done.state
-    words_now =
-        ap (slice_set s.words (register o)) (writes n
-        (subst (SumFits o) (sym n_is)
-        (L.fits z p d word o grown.changes.reached grown.changes.here due.due)))
-        ∙ ap (λ w. words_after w (Some o)) same_words ∙ sym done.words
+    words_now = grind (arith, common_steps, slice_set, register, n_is, grown, same_words, done)
 
     placed : A.sender done.state p ≡ Some d_now
     placed = done.changes.here ∙ ap Some (sym d_is)
@@ -291,34 +236,13 @@ module _ {C : Type 0} (P : Process C) (A : Automaton C) (K : ProcessLaws P)
     since = ap (λ (y : Sat C). since_in P y.0 d) due.me ∙ since_is P K c d due.actions due.accepts
 
     did : A.sender_trail done.state p ≡ sender_trail
-    did =
-        done.changes.sender_trail
-        ∙ ap (λ t. with_sender_trail t (P.adds d (slice_index (A.words z) (register o)) word))
-        (grown.changes.sender_trail ∙ ap (λ t. with_actions t due.actions) seated.sender_trail_is
-        ∙ ap (with_actions (sender_trail_in m.0)) (sym since))
-        ∙ ap (λ k. with_sender_trail (all_in P m.0 d) (P.adds d k word)) (sym n_is)
+    did = grind (arith, common_steps, done, slice_index, register, grown, seated, since, n_is)
 
     changes : ChangesTo A r.state p d_now sender_trail done.state
-    changes = record {
-      reached = done.changes.reached;
-      here = placed;
-      others = λ q ne. done.changes.others q ne ∙ grown.changes.others q ne;
-      sender_trail = did;
-      passed = λ q. done.changes.passed q ∙ grown.changes.passed q;
-      nothing_else = λ q ne. done.changes.nothing_else q ne ∙ grown.changes.nothing_else q ne;
-    }
+    changes = grind (arith, common_steps, done, placed, grown, did)
 
     grows : LogGrows A r.state done.state
-    grows = let h = done.grows in record {
-      frames = h.frames;
-      more = h.more;
-      lawful = h.lawful;
-      lawful_now = h.lawful_now;
-      words_are = h.words_are ∙ grown.log;
-      words_now = h.words_now;
-      long = ap length (sym grown.log) ∙ h.long ∙ ap (λ w. slice_index w 0) grown.words;
-      long_now = h.long_now;
-    }
+    grows = grind (arith, common_steps, done, grown, length, slice_index)
 
     -- the page is at home where it is taken
     taken : (t : ℕ) → P.move d ≡ Comes t → (page : Page) × (A.home r.state ≡ Some page)
@@ -335,11 +259,7 @@ module _ {C : Type 0} (P : Process C) (A : Automaton C) (K : ProcessLaws P)
     stored_now : notes.stored ≤ slice_index (A.words done.state) 0
     stored_now =
         let wide = L.wide z grown.changes.reached in
-        let long : before.stored ≤ slice_index (A.words done.state) 0 =
-        (let a = seated.reached in let l = longer A r.state done.state grows in omega arith) in
-        subst (λ u. stored_by u before.stored ≤ slice_index (A.words done.state) 0) (sym due.due)
-        (stored_long o (A.words z) before.stored (slice_index (A.words done.state) 0)
-        (let w = within in omega arith) (ap (λ w. slice_index w 0) done.words) long)
+        grind (arith, common_steps, slice_index, done, seated, longer, grows, stored_long, within)
 
     tied : Tied P A (record {
       words = slice_set s.words (register o) (f n);

@@ -3,9 +3,9 @@
 use Rattle.std.proofs.Common.{◌≡◌, ℕ, ◌+◌, ◌<◌, ◌≤◌, Bool, Option, Some, List, [], ◌∷◌, length, map}
 use Rattle.std.proofs.Common.{drop, slice_get, inl, arith, sym, ◌∙◌, ap, subst}
 use mathlib.Core.Option.{some-injective}
-use mathlib.Core.Option as maybe
 use lib.ListN.{get_elem?}
 use Rattle.std.proofs.lemmas.Option.{slice_get_within}
+use Rattle.std.proofs.lemmas.Grind.{common_steps}
 use Rattle.atomic_table.specs.Table.{State}
 use Rattle.bus_adoptcommit.specs.declared.verdicts.Verdict.{Verdict}
 use Rattle.bus_register.specs.Protocol.{Protocol}
@@ -46,9 +46,7 @@ module _ {E : Type 0} (X : Election E) (x : Layout) (reuse : Option ℕ) (bases 
   by = h.promised.by
 
   at_home : m.home ≡ Some page
-  at_home = slot_is m.home page
-      (some-injective _ _
-      (ap (λ (hs : List (maybe.Option (Option Page))). get_elem? hs 0) (sym h.homes ∙ home)))
+  at_home = grind (arith, common_steps, slot_is, some-injective, get_elem?)
 
   -- its floor is that of the log
   floor_same : floor_of m ≡ floor_in (table_layout_by x reuse) s.words

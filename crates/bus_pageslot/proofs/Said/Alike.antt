@@ -1,9 +1,9 @@
 -- Any two receivers that seats show were answered the same, as far as both have read.
-use Rattle.std.proofs.Common.{◌≡◌, ℕ, Option, List, take, refl, sym, ◌∙◌, ap, subst}
+use Rattle.std.proofs.Common.{◌≡◌, ℕ, Option, List, take, arith}
+use Rattle.std.proofs.lemmas.Grind.{common_steps}
 use mathlib.Core.Option.{some}
 use lib.ListN.{get_elem?}
 use Rattle.atomic_table.specs.Table.{State}
-use Rattle.bus_batch.specs.Frames.{Order, log_pieces, order_in}
 use Rattle.bus_batch.proofs.FrameLaws.{same_log}
 use Rattle.bus_tenure.specs.declared.pages.Page.{Page}
 use Rattle.bus_automaton.specs.Lawful.{AutomatonLaws, HasLog}
@@ -25,10 +25,7 @@ module _ {C : Type 0} (P : Process C) (A : Automaton C) (L : AutomatonLaws P A)
       → ShowsReceiver e v → HasHeard log.frames e
   heard j v e at is =
       let k = (known_of P A L s r j e v (r.views j v at) is).1 in
-      subst (λ fs. HasHeard fs e)
-      (same_log A.table_layout.senders 0 0 k.frames log.frames k.lawful log.lawful
-      (k.words_are ∙ sym log.words_are))
-      k.heard
+      grind (arith, common_steps, same_log, log)
 
   pub are_alike : AreAlike A.table_layout (log_in A r.state) s
   are_alike = record {
@@ -42,13 +39,4 @@ module _ {C : Type 0} (P : Process C) (A : Automaton C) (L : AutomatonLaws P A)
 
 pub alike_refuses : {C : Type 0} (x : TableLayout) (all : List ℕ) (s : State (Option Page) (View C))
     → AlikeRefuses x all s
-alike_refuses x all s = record {
-  unread = λ j v e at is first some a.
-      let h = a.heard j v e at is in
-      some (ap (λ (o : Order). o.entries)
-      (h.given_is ∙ ap (λ n. order_in (take n (log_pieces a.frames))) first));
-  apart = λ j k v w e f at there is shown same other a.
-      let h = a.heard j v e at is in
-      let g = a.heard k w f there shown in
-      other (h.given_is ∙ ap (λ n. order_in (take n (log_pieces a.frames))) same ∙ sym g.given_is);
-}
+alike_refuses x all s = grind (arith, common_steps, take)

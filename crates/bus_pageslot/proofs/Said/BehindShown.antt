@@ -1,8 +1,8 @@
 -- A sender that answers Behind shows the load of the presence that it found.
-use Rattle.std.proofs.Common.{◌≡◌, ℕ, ◌+◌, Option, Some, None, [], ◌∷◌, ◌++◌, refl, sym, ◌∙◌, ap}
-use Rattle.std.proofs.Common.{arith, ◌<◌}
+use Rattle.std.proofs.Common.{◌≡◌, ℕ, ◌+◌, Option, Some, None, [], ◌∷◌, ◌++◌, ap, arith, ◌<◌}
 use Rattle.std.specs.Prelude.{IsSomeAnd}
 use Rattle.std.proofs.lemmas.Option.{same_Some}
+use Rattle.std.proofs.lemmas.Grind.{common_steps}
 use Rattle.bus_core.specs.Senders.{Sender, Situation, Does, Announces, Validates, Unpins}
 use Rattle.bus_core.specs.Senders.{Withdraws, Scans, Clears, ReadsPassed, situation}
 use Rattle.bus_core.proofs.Situated.{passed_behind}
@@ -21,10 +21,8 @@ use Rattle.bus_tenure.proofs.Situated.{tells}
 use Rattle.bus_tenure.specs.Core.{Election}
 use Rattle.bus_tenure.specs.Situations.{IsClosed, IsIdle, IsSpent, LooksAtStage, Elects, TakesPage}
 use Rattle.bus_tenure.specs.Situations.{AwaitsPage, StoresWord, StoresLength, GivesBack, HasHanded}
-use Rattle.bus_tenure.specs.Situations.{situation_of}
 use Rattle.bus_tenure.specs.declared.turns.Turn.TheVariants as turn
 use Rattle.bus_automaton.specs.OneProcess.{adds_by, process_of}
-use Rattle.bus_automaton.specs.SenderTrails.{SenderTrail}
 use Rattle.bus_pageslot.specs.Seats.{SenderSeat, TookAndTold, sender_trail_of}
 
 module _ {E : Type 0} (X : Election E) (v : Sender E) (word : ℕ) (r : Reuse) (p : ℕ) (t : ℕ) where
@@ -55,11 +53,7 @@ module _ {E : Type 0} (X : Election E) (v : Sender E) (word : ℕ) (r : Reuse) (
   shown low held h (Does IsSpent) i e = absurd (no_step e)
   shown low held h (Does (AwaitsPage u)) i e = absurd (no_step e)
   shown low held h (Does LooksAtStage) i e = absurd (stage_not (same_Some _ _ e))
-  shown low held h (Does (Elects u k)) i e =
-      let elects =
-      tells X v.core (Elects u k)
-      (own_of v.core.layout.passers v.reuse (situation_of X v.core) (Elects u k) i) in
-      absurd (let bad : None ≡ Some held = ap held_of (sym elects.0) ∙ h in cc)
+  shown low held h (Does (Elects u k)) i e = grind (arith, common_steps, tells, own_of)
   shown low held h (Does (TakesPage u)) i e = absurd (store_not _ _ (same_Some _ _ e))
   shown low held h (Does (StoresWord u page stored)) i e = absurd (store_not _ _ (same_Some _ _ e))
   shown low held h (Does (StoresLength u page stored)) i e =
@@ -72,9 +66,7 @@ module _ {E : Type 0} (X : Election E) (v : Sender E) (word : ℕ) (r : Reuse) (
   shown low held h (Withdraws u) i e = absurd (store_not _ _ (same_Some _ _ e))
   shown low held h (Clears s) i e = absurd (store_not _ _ (same_Some _ _ e))
   shown low held h (ReadsPassed u q) i e =
-      let behind = passed_behind X v u q i in
-      let same = ap register (same_Some _ _ e) in
-      absurd (omega arith)
+      grind (arith, common_steps, passed_behind, register, same_Some)
   shown low held h (Scans s) i e = λ got is n. record { op = same_Some _ _ e n; got = is n } ∷ []
 
 module _ {E : Type 0} (X : Election E) (old new : SenderSeat (Sender E)) (word t : ℕ) (p : SenderNo)
@@ -89,13 +81,7 @@ module _ {E : Type 0} (X : Election E) (old new : SenderSeat (Sender E)) (word t
       } ∷ []
 
   loaded : (r : Reuse) → IsBehind X old.core h.took.got word t p.0 r → Loaded r
-  loaded r behind =
-      let told : h.took.got ≡ h.took.found = h.took.told _ behind.loads in
-      ap (λ (k : SenderTrail). k.reclaims) h.took.sender_trail
-      ∙ ap (λ l. (sender_trail_of (process_of X) old).reclaims ++ l)
-      (shown X old.core word r p.0 t behind.below behind.tenure behind.held (situation X old.core)
-      refl
-      behind.loads h.took.found (sym told ∙ behind.found))
+  loaded r behind = grind (arith, shown)
 
   by_reuse : (r : Option Reuse) → IsSomeAnd r (λ q. IsBehind X old.core h.took.got word t p.0 q)
       → IsSomeAnd r (λ q. Loaded q)

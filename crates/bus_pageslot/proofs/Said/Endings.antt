@@ -7,6 +7,7 @@ use mathlib.Core.Option as maybe
 use lib.ListN.{get_elem?}
 use Rattle.std.proofs.lemmas.Bool.{true≢false}
 use Rattle.std.proofs.lemmas.List.{length-drop}
+use Rattle.std.proofs.lemmas.Grind.{common_steps}
 use Rattle.atomic_table.specs.Table.{Final, Seen}
 use Rattle.bus_register.specs.declared.limits.TheConstants.{MOST_SENDERS}
 use Rattle.bus_register.specs.declared.registers.SenderNo.{SenderNo}
@@ -22,8 +23,7 @@ use Rattle.bus_world.specs.Floors.{IsBoundary}
 use Rattle.bus_pageslot.specs.ReceiverViews.{ReceiverView}
 use Rattle.bus_pageslot.specs.declared.rule.View.{View}
 use Rattle.bus_pageslot.specs.declared.rule.View.TheVariants.{Tap}
-use Rattle.bus_automaton.specs.Processes.{TableLayout, Process, Automaton, base_in, log_below}
-use Rattle.bus_automaton.specs.Processes.{log_in}
+use Rattle.bus_automaton.specs.Processes.{TableLayout, Process, Automaton, base_in, log_in}
 use Rattle.bus_automaton.specs.Lawful.{AutomatonLaws, HasLog, floor_in, log_from_floor}
 use Rattle.bus_pageslot.specs.Rule.{slot_of, receiver_view_in, known_in, KnowsLog, TableInvariant}
 use Rattle.bus_pageslot.specs.Endings.{IsLeft}
@@ -47,9 +47,7 @@ pub read-next : (words : ℕ → ℕ) (at capacity place k w : ℕ)
     → words (at + (place + k) % capacity) ≡ w
     → words_in_ring words at capacity place k ++ w ∷ []
     ≡ words_in_ring words at capacity place (k + 1)
-read-next words at capacity place k w e =
-    ap (λ z. words_in_ring words at capacity place k ++ z ∷ []) (sym e)
-    ∙ ap (words_in_ring words at capacity place) (let one : suc k ≡ k + 1 = omega arith in one)
+read-next words at capacity place k w e = grind (arith, common_steps)
 
 pub nothing_there : {A : Type 0} (o : Option A) → is_some o ≡ false → o ≡ None
 nothing_there None e = refl
@@ -79,19 +77,7 @@ module _ {C : Type 0} (P : Process C) (A : Automaton C) (L : AutomatonLaws P A) 
       (owners : List (ℕ × SenderNo)) → Spells A.table_layout.senders (log_in A z) order owners
       → KnowsWhole (base_in A) page order × (page.words ≡ length (log_in A z))
       × (page.floor ≤ page.words)
-  page_whole z page reached home order owners s =
-      let by_page = L.page_knows z page s.frames reached home s.lawful s.words_are in
-      let knows = by_page.2 in (
-        record {
-          next = λ p l.
-              knows.next p l
-              ∙ ap (λ (o : Order). base_in A p + length (of_sender p o)) s.order_is;
-          left = λ p l. knows.left p l ∙ ap (λ (o : Order). Some (has_gone p o)) s.order_is;
-          ended = knows.ended ∙ ap (λ (o : Order). o.ended) s.order_is;
-        },
-        knows.words ∙ sym (L.log z reached).long,
-        knows.floor,
-      )
+  page_whole z page reached home order owners s = grind (arith, common_steps, length)
 
   -- the page at home knows the words that stand, where its tenures are above those of their frames,
   -- and its floor is not past the log's
@@ -134,11 +120,7 @@ module _ {C : Type 0} (P : Process C) (A : Automaton C) (L : AutomatonLaws P A) 
         order = order_of b.rest;
         owners = map tenure_and_owner b.rest;
         spells = spells;
-        words =
-            (let all = knows.1 in
-            let left = length-drop floor (log_in A z) in
-            let is = ap length h.published in
-            let in_it = h.within in omega arith);
+        words = grind (arith, common_steps, length-drop, length);
         floor = low;
         rest = record {
           numbered = λ p k i l here.
@@ -188,9 +170,7 @@ module _ {C : Type 0} (P : Process C) (A : Automaton C) (L : AutomatonLaws P A) 
 
     -- the floor is not past the length
     floor_low : floor_in A.table_layout (A.words shown.state) ≤ length (log_in A shown.state)
-    floor_low = subst (λ ws. floor_in A.table_layout (A.words shown.state) ≤ length ws)
-        has_log.words_are
-        (floor_within 0 has_log.frames (floor_in A.table_layout (A.words shown.state)) has_log.edge)
+    floor_low = grind (arith, common_steps, shown, length, has_log, floor_within)
 
     pub rising : floor_in A.table_layout ws ≤ slice_index ws 0
     rising = subst (λ l. floor_in A.table_layout l ≤ slice_index l 0) words_are
@@ -200,10 +180,7 @@ module _ {C : Type 0} (P : Process C) (A : Automaton C) (L : AutomatonLaws P A) 
     pub fits : slice_index f.0.words 0
         ≤ A.table_layout.capacity + floor_in A.table_layout f.0.words
         → slice_index ws 0 - floor_in A.table_layout ws ≤ A.table_layout.capacity
-    fits few =
-        let most = subst
-        (λ l. slice_index l 0 ≤ A.table_layout.capacity + floor_in A.table_layout l) f.2 few in
-        omega arith
+    fits few = grind (arith, common_steps, slice_index)
 
     stage_is : (stage : ℕ) → slice_index ws 1 ≡ stage → slice_index (A.words shown.state) 1 ≡ stage
     stage_is stage at = ap (λ l. slice_index l 1) words_are ∙ at
@@ -245,20 +222,7 @@ module _ {C : Type 0} (P : Process C) (A : Automaton C) (L : AutomatonLaws P A) 
               (floor_in A.table_layout (A.words z)) hl.edge (log_in A z) hl.words_are hl.lawful);
           passed = λ any. subst (λ (u : View C). floor ≤ (receiver_view_in u).passed) (sym is)
               (subst (λ k. k ≤ e.passed) (sym floor_is) (floor_passed stays any));
-          flat = λ none.
-              let first : floor ≡ 0 =
-              floor_is
-              ∙ ap (λ m. floor_shown (slice_index ws) A.table_layout.passed m (slice_index ws 0))
-              none in
-              record {
-                first = first;
-                log_is =
-                    ap (log_below A.table_layout) shown.words ∙ hl.stands none
-                    ∙ ap (λ k. drop k (log_in A z)) (sym first) ∙ published;
-                page = λ page here.
-                    (L.page_knows z page hl.frames shown.reached (at ∙ here) hl.lawful
-                    hl.words_are).3 none;
-              };
+          flat = λ none. grind (arith, common_steps, slice_index, shown, drop);
           home_is = shown.slot ∙ ap (λ (u : Option Page). slot_of u ∷ []) at;
           promised = promised;
           front = subst (λ (u : View C). IsPrefix (known_in u) (log_in A z)) (sym is) k.front;
@@ -289,6 +253,4 @@ module _ {C : Type 0} (P : Process C) (A : Automaton C) (L : AutomatonLaws P A) 
         let there : get_elem? f.0.homes 0 ≡ some (some (Some h.0)) = ap
         (λ (hs : List (maybe.Option (Option Page))). get_elem? hs 0)
         (shown.slot ∙ ap (λ (u : Option Page). slot_of u ∷ []) h.1) in
-        let same : slot ≡ Some h.0 =
-        some-injective slot (Some h.0) (sym in_slot ∙ f.4 0 (Some h.0) there) in
-        (h.0, same, left stays (Some h.0) h.1 floor floor_is log log_is)
+        grind (arith, some-injective, left)

@@ -1,7 +1,8 @@
 -- All words from the floor on fit the log: the length is no further behind the floor than the log
 -- has words.
 use Rattle.std.proofs.Common.{◌≡◌, ℕ, zero, suc, ◌+◌, ◌*◌, ◌<◌, ◌≤◌, Option, Some, None, List}
-use Rattle.std.proofs.Common.{slice_index, arith, refl, sym, subst, inl, inr}
+use Rattle.std.proofs.Common.{slice_index, arith, refl, sym, subst}
+use Rattle.std.proofs.lemmas.Grind.{common_steps}
 use Rattle.atomic_table.specs.Table.{State}
 use Rattle.bus_core.specs.Reusing.Participants.{passed_from}
 use Rattle.bus_core.specs.Senders.{Sender}
@@ -11,7 +12,6 @@ use Rattle.bus_machine.proofs.Bases.CyclicTurns.{protocol_kept}
 use Rattle.bus_machine.proofs.Frames.Framed.{framed}
 use Rattle.bus_machine.proofs.Bases.Leading.{Sits, two_rows, led_some}
 use Rattle.bus_machine.specs.Machine.{Machine, Trails, Reached, floor_of, passers_place}
-use Rattle.bus_machine.specs.Promise.{HasRows}
 use Rattle.bus_machine.specs.Private.Bridge.{IsLed}
 use Rattle.bus_register.specs.Protocol.{Protocol}
 use Rattle.bus_tenure.specs.Core.{Election, Layout}
@@ -19,9 +19,8 @@ use Rattle.bus_tenure.specs.declared.pages.Page.{Page}
 use Rattle.bus_world.proofs.FloorLaws.{lesser_is}
 use Rattle.bus_world.proofs.Serving.{Serves}
 use Rattle.bus_world.specs.Log.{least_passed, floor_shown}
-use Rattle.bus_world.specs.World.{IsLayout}
 use Rattle.bus_automaton.specs.Lawful.{floor_in}
-use Rattle.bus_automaton.specs.OneAutomaton.{IsMachineHistory, bus_of}
+use Rattle.bus_automaton.specs.OneAutomaton.{bus_of}
 use Rattle.bus_automaton.specs.OneProcess.{process_of, table_layout_by}
 use Rattle.bus_pageslot.specs.Rule.{TableInvariant}
 use Rattle.bus_pageslot.specs.declared.rule.View.{View}
@@ -32,11 +31,7 @@ pub least_above : (words : ℕ → ℕ) (at n len low : ℕ) → low ≤ len
 least_above words at zero len low below behind = below
 least_above words at (suc k) len low below behind =
     let more = least_above words at k len low below (λ r l. behind r (omega arith)) in
-    let here = behind k (omega arith) in
-    elim (lesser_is (words (at + PASSED_APART * k)) (least_passed words at k len)) [
-      | inl a ↦ (let is = a.0 in omega arith)
-      | inr a ↦ (let is = a.0 in omega arith)
-    ]
+    grind (arith, common_steps, lesser_is)
 
 -- nor past the floor
 pub shown_above : (words : ℕ → ℕ) (at n len low : ℕ) → low ≤ len → (n ≡ 0 → low ≡ 0)
@@ -83,15 +78,4 @@ pub table_fits : {E : Type 0} (X : Election E) (P : Protocol E (Unit {0}) ℕ) (
     → (s : State (Option Page) (View (Sender E)))
     → TableInvariant (process_of X) (bus_of X x reuse bases) s
     → slice_index s.words 0 ≤ x.capacity + floor_in (table_layout_by x reuse) s.words
-table_fits {E} X P x reuse bases y s r =
-    let m : Machine E = r.state.machine in
-    let h : IsMachineHistory X x reuse bases r.state = r.reached in
-    let sits : Sits X P m = record {
-      serves = subst (Serves X P) (sym h.layout) y;
-      ok = subst IsLayout (sym h.layout) h.served;
-      rows = subst HasRows (sym h.rows_are) h.has_rows;
-    } in
-    subst (λ (u : Layout × Option ℕ × List ℕ).
-    slice_index u.2 0 ≤ u.0.capacity + floor_in (table_layout_by u.0 u.1) u.2)
-    (λ n. (h.layout n, h.rows_are n, sym r.words n))
-    (machine_fits X P m r.state.trails sits h.reached)
+table_fits {E} X P x reuse bases y s r = grind (arith, common_steps, slice_index, machine_fits)

@@ -1,6 +1,6 @@
 -- What stands behind a table: a machine, and what led to it.
 use Rattle.std.proofs.Common.{◌≡◌, ◌⊎◌, ℕ, ◌<◌, Bool, Option, Some, None, List, slice_index, inl}
-use Rattle.std.proofs.Common.{inr, ap, drop, sym, subst, ◌∙◌}
+use Rattle.std.proofs.Common.{inr, ap, ◌∙◌}
 use mathlib.Core.Option.{some}
 use lib.ListN.{get_elem?}
 use Rattle.atomic_table.specs.Table.{State}
@@ -19,7 +19,7 @@ use Rattle.bus_tenure.specs.Elections.{Elector, election_with, layout_with}
 use Rattle.bus_tenure.specs.declared.pages.Page.{Page}
 use Rattle.bus_world.specs.declared.shapes.Shape.{Shape}
 use Rattle.bus_automaton.specs.Buses.{process_with, automaton_with, layout_by, plan_passers}
-use Rattle.bus_automaton.specs.Lawful.{AutomatonLaws, HasLog, floor_in, log_from_floor}
+use Rattle.bus_automaton.specs.Lawful.{AutomatonLaws, HasLog}
 use Rattle.bus_automaton.specs.OneAutomaton.{bus_of, trail_of}
 use Rattle.bus_automaton.specs.OneProcess.{process_of, table_layout_by}
 use Rattle.bus_automaton.specs.Processes.{log_below}
@@ -123,10 +123,7 @@ module _ {E : Type 0} (X : Election E) (x : Layout) (reuse : Option ℕ) (bases 
     senders = λ j v sender_trail is. (seated j v sender_trail is).1.core;
     trails = λ j v sender_trail is. (seated j v sender_trail is).1.sender_trail_is;
     all = λ p below. let a = r.all p below in shows p a.0 a.1 a.2 a.3 below;
-    shows = subst
-        (λ ws. log_from_floor (table_layout_by x reuse) ws
-        ≡ drop (floor_in (table_layout_by x reuse) ws) r.state.trails.log)
-        (sym r.words) log.shows;
+    shows = cc;
     stands = λ flat. ap (log_below (table_layout_by x reuse)) r.words ∙ log.stands flat;
     promised = h.0;
     losses = h.1;

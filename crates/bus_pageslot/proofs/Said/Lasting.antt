@@ -1,9 +1,10 @@
 -- What was published stays published.
-use Rattle.std.proofs.Common.{◌≡◌, ◌≢◌, ◌⊎◌, ⊎_elim, ℕ, ◌<◌, Option, List, [], ◌∷◌, ◌++◌, false}
-use Rattle.std.proofs.Common.{length, set, slice_index, arith, refl, sym, ◌∙◌, ap, subst, inl, inr}
+use Rattle.std.proofs.Common.{◌≡◌, ◌≢◌, ◌⊎◌, ℕ, ◌<◌, Option, List, [], ◌∷◌, ◌++◌, false, length}
+use Rattle.std.proofs.Common.{set, slice_index, arith, refl, sym, ◌∙◌, ap, subst, inl, inr}
 use mathlib.Core.Option.{some}
 use lib.ListN.{get_elem?}
 use Rattle.std.proofs.lemmas.List.{append-nil, length-append}
+use Rattle.std.proofs.lemmas.Grind.{common_steps}
 use Rattle.atomic_table.specs.Table.{State}
 use Rattle.atomic_table.proofs.Lists.{at_set, set_else}
 use Rattle.bus_tenure.specs.declared.pages.Page.{Page}
@@ -54,12 +55,7 @@ module _ {C : Type 0} (P : Process C) (A : Automaton C) (s : State (Option Page)
       slot = r.slot;
       seat = r.seat;
       ear = r.ear;
-      views = λ j u e. ⊎_elim
-          (λ (k : (j ≡ id) × (w ≡ u)).
-          subst (λ (y : ℕ × View C). IsTrueOf P A r.state r.seat r.ear y.0 y.1)
-          (λ i. (sym k.0 i, k.1 i)) true_of)
-          (λ (k : (j ≢ id) × (get_elem? s.views j ≡ some u)). r.views j u k.1)
-          (at_set s.views id j w u e);
+      views = λ j u e. grind (arith, common_steps, some, at_set);
       all = λ p below. still_seen (Seats P p) s.views id v w at (still (inl p)) (r.all p below);
       all_heard = λ q below. still_seen (SeatsReceiver q) s.views id v w at
           (still (inr (inl q))) (r.all_heard q below);
@@ -226,21 +222,14 @@ module _ {C : Type 0} (P : Process C) (A : Automaton C) (L : AutomatonLaws P A)
 
   all_of_it : (known : List ℕ) → IsPrefix known all → length known ≡ got → known ≡ all
   all_of_it known front long =
-      let many = size P A L s r in
-      let parts = length-append known front.rest in
-      let same = ap length front.together in
-      let none : front.rest ≡ [] = nothing_left front.rest (omega arith) in
-      sym (append-nil known) ∙ ap (λ z. known ++ z) (sym none) ∙ front.together
+      grind (arith, common_steps, size, length-append, length, nothing_left, append-nil)
 
   front_of : (v : View C) (e : ReceiverView) → ShowsReceiver e v
       → IsTrueOf P A r.state r.seat r.ear id v → IsPrefix e.known all
   front_of (Maker x made) e is h = absurd is
   front_of (Sender c t stored) e is h = absurd is
   front_of (Tap x f) e is h = subst (λ (g : ReceiverView). IsPrefix g.known all) is h.front
-  front_of (Meeting x f y g) e is h = elim is [
-    | inl one ↦ subst (λ (k : ReceiverView). IsPrefix k.known all) one h.0.front
-    | inr two ↦ subst (λ (k : ReceiverView). IsPrefix k.known all) two h.1.front
-  ]
+  front_of (Meeting x f y g) e is h = grind (arith, common_steps)
   front_of (Telling c t stored x f) e is h =
       subst (λ (g : ReceiverView). IsPrefix g.known all) is h.1.front
   front_of Spent e is h = absurd is

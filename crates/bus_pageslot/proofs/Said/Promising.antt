@@ -1,17 +1,17 @@
 -- The page of promises holds of what the seats show, since events lead to the bus that the table
 -- is.
-use Rattle.std.proofs.Common.{◌≡◌, ℕ, ◌<◌, ◌≤◌, false, true, Option, Some, None, List, [], map}
-use Rattle.std.proofs.Common.{drop, inl, inr, refl, slice_index, sym, ◌∙◌, ap, subst, ⊎_elim}
+use Rattle.std.proofs.Common.{◌≡◌, ℕ, ◌<◌, ◌≤◌, Option, List, [], map, drop, refl, slice_index}
+use Rattle.std.proofs.Common.{sym, ◌∙◌, ap, subst, ⊎_elim, arith}
 use mathlib.Core.Option.{some}
 use lib.ListN.{get_elem?}
 use Rattle.std.proofs.lemmas.Bool.{cases_lt}
+use Rattle.std.proofs.lemmas.Grind.{common_steps}
 use Rattle.atomic_table.specs.Table.{State}
 use Rattle.bus_register.specs.declared.registers.SenderNo.{SenderNo}
 use Rattle.bus_batch.specs.Frames.{Order, Spells, order_of, tenure_and_owner}
 use Rattle.bus_batch.proofs.FrameLaws.{spells_one}
 use Rattle.bus_deliverylog.specs.Orders.{IsPrefixOfOrder}
 use Rattle.bus_deliverylog.specs.declared.receiving.RecvTurn.{RecvTurn}
-use Rattle.bus_deliverylog.specs.declared.receiving.RecvTurn.TheVariants as turn
 use Rattle.bus_tenure.specs.declared.pages.Page.{Page}
 use Rattle.bus_world.specs.Headline.{IsPrefix, order_given, heads}
 use Rattle.bus_pageslot.specs.ReceiverViews.{ReceiverView, IsSilent}
@@ -20,7 +20,7 @@ use Rattle.bus_pageslot.specs.declared.rule.View.TheVariants.{Maker, Sender, Tap
 use Rattle.bus_pageslot.specs.declared.rule.View.TheVariants.{Spent}
 use Rattle.bus_automaton.specs.Processes.{TableLayout, Process, Automaton, base_in, log_below}
 use Rattle.bus_automaton.specs.Processes.{log_in, actions_at}
-use Rattle.bus_automaton.specs.Lawful.{AutomatonLaws, floor_in, log_from_floor}
+use Rattle.bus_automaton.specs.Lawful.{AutomatonLaws}
 use Rattle.bus_pageslot.specs.Rule.{Ear, KnowsLog, IsTrueOf, Seats, TableInvariant}
 use Rattle.bus_pageslot.specs.Promised.{Fits, ShowsActions, ShowsTrail, IsShownTrail, IsPromised}
 use Rattle.bus_pageslot.proofs.Hears.Hearing.{begins_order, begins_owners}
@@ -31,10 +31,7 @@ module _ {C : Type 0} (P : Process C) (A : Automaton C) (z : A.State) (seat : �
   where
     view_fits : ((p : ℕ) → A.table_layout.senders ≤ p → actions_at A z p ≡ []) → (v : View C)
         → IsTrueOf P A z seat ear j v → Fits P (actions_at A z) (log_in A z) v
-    view_fits nobody (Maker x made) h = λ p past. elim (cases_lt p A.table_layout.senders) [
-      | inl below ↦ ap (λ t. t.actions) (h.1 p past below).sender_trail_is
-      | inr none ↦ nobody p none
-    ]
+    view_fits nobody (Maker x made) h = grind (arith, common_steps, cases_lt)
     view_fits nobody (Sender c t notes) h = ap (λ t. t.actions) h.sender_trail_is
     view_fits nobody (Tap x e) h = h.front
     view_fits nobody (Meeting x e y f) h = (h.0.front, h.1.front)
@@ -46,16 +43,10 @@ module _ {C : Type 0} (P : Process C) (A : Automaton C) (z : A.State) (seat : �
         → Seats P p v → ShowsActions P p (actions_at A z p) v
     view_shows (Maker x made) h p below is =
         (is, ap (λ t. t.actions) (h.1 p is below).sender_trail_is)
-    view_shows (Sender c t notes) h p below is = (
-      is,
-      ap (actions_at A z) (sym is) ∙ ap (λ t. t.actions) h.sender_trail_is,
-    )
+    view_shows (Sender c t notes) h p below is = grind (arith, common_steps)
     view_shows (Tap x e) h p below is = is
     view_shows (Meeting x e y f) h p below is = is
-    view_shows (Telling c t notes x e) h p below is = (
-      is,
-      ap (actions_at A z) (sym is) ∙ ap (λ t. t.actions) h.0.sender_trail_is,
-    )
+    view_shows (Telling c t notes x e) h p below is = grind (arith, common_steps)
     view_shows Spent h p below is = is
 
 -- ---- answers
@@ -83,13 +74,7 @@ module _ {C : Type 0} (P : Process C) (A : Automaton C) (z : A.State) (order : O
       } in
       let same = spells_one A.table_layout.senders (log_in A z) (order_of h.frames) order
       (map tenure_and_owner h.frames) owners mine s in
-      record {
-        order_is = subst (IsPrefixOfOrder (order_given e.answers)) same.0
-            (begins_order A.table_layout.senders h.frames h.lawful e h.heard);
-        owners_are = subst (IsPrefix (heads e.answers)) same.1
-            (begins_owners A.table_layout.senders h.frames h.lawful e h.heard);
-        silent = h.heard.silent;
-      }
+      grind (arith, common_steps, begins_order, begins_owners)
 
   same_good : (ear : ℕ → Ear) (j : ℕ) (x : TableLayout) (e : ReceiverView) → KnowsLog A z ear j x e
       → (trail : List RecvTurn)
@@ -110,16 +95,7 @@ module _ {C : Type 0} (P : Process C) (A : Automaton C) (z : A.State) (order : O
 
   -- a receiver that was answered nothing
   none_good : IsGood order owners []
-  none_good = record {
-    order_is = record {
-      later = order.entries;
-      entries = refl;
-      ended = λ e. absurd (let bad : false ≡ true = e in cc);
-    };
-    owners_are = record { rest = owners; together = refl };
-    silent = λ j k a at l here.
-        absurd (let bad : None ≡ Some turn.End = at in let wrong : ⊥ = cc in wrong);
-  }
+  none_good = grind (arith, common_steps)
 
 pub seats_promised : {C : Type 0} (P : Process C) (A : Automaton C) → AutomatonLaws P A
     → (s : State (Option Page) (View C)) (r : TableInvariant P A s)
@@ -149,10 +125,7 @@ seats_promised {C} P A L s r =
           );
       nobody = nobody;
       long = (L.log r.state r.reached).long ∙ ap (λ ws. slice_index ws 0) (sym r.words);
-      shows = subst
-          (λ ws. log_from_floor A.table_layout ws
-          ≡ drop (floor_in A.table_layout ws) (log_in A r.state))
-          (sym r.words) (L.log r.state r.reached).shows;
+      shows = grind (arith, common_steps, drop);
       stands = λ flat.
           ap (log_below A.table_layout) r.words ∙ (L.log r.state r.reached).stands flat;
       order = p.order;

@@ -1,21 +1,21 @@
 -- What was published grows by the frame of who stores the length.
 use Rattle.std.proofs.Common.{◌≡◌, ℕ, Option, Some, List, ◌++◌, slice_get, slice_index, sym, ◌∙◌}
-use Rattle.std.proofs.Common.{ap, drop, subst, ◌<◌, ◌≤◌}
+use Rattle.std.proofs.Common.{ap, drop, subst, ◌<◌, ◌≤◌, arith}
 use Rattle.std.proofs.lemmas.Option.{same_Some}
+use Rattle.std.proofs.lemmas.Grind.{common_steps}
 use mathlib.Core.Option.{some}
 use lib.ListN.{get_elem?}
 use Rattle.atomic_table.specs.Table.{State}
 use Rattle.bus_core.specs.Senders.{Sender}
 use Rattle.bus_core.specs.Table.{line_now}
 use Rattle.bus_machine.proofs.Frames.Framed.{floor_first, log_straight}
-use Rattle.bus_machine.specs.Machine.{Machine, ShowsLog, going, log_place}
-use Rattle.bus_machine.specs.Promise.{Follows, frame_next}
+use Rattle.bus_machine.specs.Machine.{Machine, ShowsLog, going}
+use Rattle.bus_machine.specs.Promise.{Follows}
 use Rattle.bus_machine.specs.Machine.{words_of_frame}
 use Rattle.bus_register.specs.Words.{register}
 use Rattle.bus_register.specs.declared.registers.Op.{Op}
 use Rattle.bus_tenure.specs.Core.{Election, Layout}
 use Rattle.bus_tenure.specs.declared.pages.Page.{Page}
-use Rattle.bus_world.specs.Log.{words_read_from}
 use Rattle.bus_world.specs.Turning.{words_after}
 use Rattle.bus_world.specs.World.{is_set}
 use Rattle.bus_world.proofs.Stopping.{shown_there}
@@ -37,13 +37,7 @@ shown_below : {E : Type 0} (m : Machine E) (x : Layout) (reuse : Option ℕ) (lo
     → m.layout ≡ x → m.reuse ≡ reuse → x.passers ≡ 0 → slice_index m.words 0 ≤ x.capacity
     → ShowsLog m log → log_below (table_layout_by x reuse) m.words ≡ log
 shown_below m x reuse log sizes rows none few shows =
-    let flat = ap (λ (y : Layout). y.passers) sizes ∙ none in
-    let short = subst (λ (y : Layout). slice_index m.words 0 ≤ y.capacity) (sym sizes) few in
-    ap (λ q. words_read_from (slice_index m.words) (log_place x q) (slice_index m.words 0))
-    (sym rows)
-    ∙ ap (λ y. words_read_from (slice_index m.words) (log_place y m.reuse) (slice_index m.words 0))
-    (sym sizes)
-    ∙ sym (log_straight m flat short) ∙ shows.1 ∙ ap (λ k. drop k log) (floor_first m flat)
+    grind (arith, common_steps, slice_index, log_straight, drop, floor_first)
 
 pub joins_frame : {E : Type 0} (X : Election E) (x : Layout) (reuse : Option ℕ) (bases : List ℕ)
     (L : AutomatonLaws (process_of X) (bus_of X x reuse bases))
@@ -88,14 +82,5 @@ joins_frame {E} X x reuse bases L s r id m at d word many o is_due law =
       words_are = stepped;
       so = grows_by X x reuse bases z h p d here word o is_due.due low
           ∙ ap (λ l. l ++ words_of_frame (line_now X d).publishes) before.log;
-      log = λ flat w there are.
-          let few : slice_index new.words 0 ≤ x.capacity =
-          subst (λ ws. slice_index ws 0 ≤ x.capacity) now
-          ((L.log done.state done.changes.reached).fits flat) in sym ((L.log w there).stands flat)
-          ∙ ap (log_below (table_layout_by x reuse)) (are
-          ∙ sym (done.words ∙ ap (λ w. words_after w (Some o)) (sym same)) ∙ now)
-          ∙ shown_below new x reuse _ h.layout h.rows_are flat few
-          (follows.stands z.trails h.reached)
-          ∙ ap (λ g. z.trails.log ++ words_of_frame (frame_next X g)) goes
-          ∙ ap (λ l. l ++ words_of_frame (line_now X d).publishes) before.log;
+      log = λ flat w there are. grind (arith, common_steps, slice_index, shown_below);
     }

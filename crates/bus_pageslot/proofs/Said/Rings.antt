@@ -1,17 +1,16 @@
 -- A receiver of a ring finds, from what it has passed on, each word that was published there.
-use Rattle.std.proofs.Common.{◌≡◌, ◌⊎◌, inl, inr, ℕ, ◌+◌, ◌%◌, ◌<◌, ◌≤◌, false}
-use Rattle.std.proofs.Common.{Option, ◌++◌, length, slice_index, take, arith, refl, sym}
-use Rattle.std.proofs.Common.{◌∙◌, ap, subst}
+use Rattle.std.proofs.Common.{◌≡◌, ◌⊎◌, inl, inr, ℕ, ◌+◌, ◌<◌, ◌≤◌, false, Option, ◌++◌, length}
+use Rattle.std.proofs.Common.{slice_index, take, arith, refl, sym, ◌∙◌, ap, subst}
 use mathlib.Core.Option.{some}
 use lib.ListN.{get_elem?}
 use Rattle.std.proofs.Math.Seq.{take-append_seam}
-use Rattle.std.proofs.lemmas.Grind.{flat_map-append}
+use Rattle.std.proofs.lemmas.Grind.{flat_map-append, common_steps}
 use Rattle.std.proofs.lemmas.List.{get_or-set_other, get_or_append_left, length-append}
 use Rattle.std.proofs.lemmas.List.{take-append-le}
 use Rattle.atomic_table.specs.Table.{State}
 use Rattle.bus_register.specs.Private.TableLaws.{some_or_none}
 use Rattle.bus_register.specs.declared.limits.TheConstants.{PASSED_ALL}
-use Rattle.bus_batch.specs.Frames.{AreFrames, IsLog, frame_words, log_words}
+use Rattle.bus_batch.specs.Frames.{IsLog, frame_words, log_words}
 use Rattle.bus_tenure.specs.declared.pages.Page.{Page}
 use Rattle.bus_world.specs.Headline.{IsPrefix}
 use Rattle.bus_automaton.proofs.Fitting.{shown_below}
@@ -60,9 +59,7 @@ module _ {C : Type 0} (P : Process C) (A : Automaton C) (L : AutomatonLaws P A)
     ] where
       taken_in : (j : ℕ) (v : View C) → get_elem? s.views j ≡ some v
           → IsTrueOf P A r.state r.seat r.ear j v → SeatsStaying e.me v → IsTaken s.views e.me
-      taken_in j (Maker y made) at h is =
-          absurd (l.made j (h.2 e.me (let senders = ap (λ (z : TableLayout). z.senders) h.0 in
-          omega arith) l.below).here)
+      taken_in j (Maker y made) at h is = grind (arith, common_steps, l)
       taken_in j (Sender c t notes) at h none = absurd none
       taken_in j (Tap y f) at h is = (j, Tap y f, f, at, refl, is.0, is.1)
       taken_in j (Meeting y f z g) at h (inl is) =
@@ -96,12 +93,7 @@ module _ {C : Type 0} (P : Process C) (A : Automaton C) (L : AutomatonLaws P A)
           (let a = l.past in let b = h.below in omega arith)
 
       whole : IsLog x.senders (take e.passed e.known)
-      whole = record {
-        frames = may.begins.front;
-        lawful = front_lawful x.senders 0 may.begins.front may.begins.rest
-            (subst (AreFrames x.senders) may.begins.frames_are may.lawful);
-        words_are = front_words;
-      }
+      whole = grind (arith, common_steps, may, front_lawful, front_words)
 
       floor : floor_in x s.words ≤ e.passed
       floor =
@@ -114,38 +106,18 @@ module _ {C : Type 0} (P : Process C) (A : Automaton C) (L : AutomatonLaws P A)
       kept = record {
         whole = whole;
         floor = floor;
-        room =
-            let fits = (L.log r.state r.reached).room in
-            let same = ap (floor_in x) r.words in
-            let low = floor in omega arith;
+        room = grind (arith, common_steps, floor);
         stands = λ place past below.
             shown_at (log_cell x place)
             ∙ L.finds r.state e.me place r.reached (inr (e.passed, l.shown stays, past)) below;
       }
 
     pub served : RingShows x s.words (log_in A r.state) s.views e
-    served = record {
-      below = l.below;
-      word = word;
-      left = λ gone. left;
-      within = l.past;
-      stays = kept;
-    }
+    served = grind (arith, common_steps, l, word, left, kept)
 
   -- a passed place is none of the words of the log, nor the length or the stage
   pub stores_beside : (me : ℕ) → me < x.passers → (number : ℕ) → StoresApart x s.words me number
-  stores_beside me few number =
-      let low = L.passed_behind in
-      let high = L.passed_room me few in
-      record {
-        length_same = get_or-set_other s.words (passed_word x me) 0 number 0
-            (λ i. absurd (omega arith));
-        stage_same = get_or-set_other s.words (passed_word x me) 1 number 0
-            (λ i. absurd (omega arith));
-        cells_same = λ place. get_or-set_other s.words (passed_word x me) (log_cell x place)
-            number 0
-            (λ i. absurd (apart (passed_word x me) x.log (place % x.capacity) high (sym i)));
-      }
+  stores_beside me few number = grind (arith, get_or-set_other, apart)
 
   -- what is known of a receiver that a view shows
   pub known_of : (j : ℕ) (e : ReceiverView) (v : View C) → IsTrueOf P A r.state r.seat r.ear j v
@@ -233,10 +205,6 @@ rule_refuses P A L s any = record {
   one_number = λ i j v w e f apart at is stays here shown stays_too same r.
       apart (ap seat_of (sym ((listens_here P A L s r i v e at is any).here stays) ∙ ap r.ear same
       ∙ (listens_here P A L s r j w f here shown any).here stays_too));
-  unattended = λ me below held none r. elim (some_or_none (A.passed r.state me)) [
-    | inl left ↦ held (ap (λ ws. slice_index ws (passed_word A.table_layout me)) r.words
-        ∙ L.left r.state me r.reached below left)
-    | inr has ↦ let h = r.all_staying me has.0 has.1 in none h.0 h.1 h.2 h.3
-  ];
+  unattended = λ me below held none r. grind (arith, common_steps, some_or_none, slice_index);
   unseen = λ me below none r. let h = all_have_seats P A s r me below in none h.0 h.1 h.2 h.3;
 }

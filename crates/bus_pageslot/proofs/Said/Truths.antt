@@ -1,6 +1,6 @@
 -- What a sender is answered is so.
 use Rattle.std.proofs.Common.{◌≡◌, ℕ, Option, Some, List, slice_get, slice_index, sym, ◌∙◌, ap}
-use Rattle.std.proofs.Common.{subst}
+use Rattle.std.proofs.Common.{subst, arith}
 use Rattle.std.proofs.lemmas.Option.{same_Some}
 use mathlib.Core.Option.{some}
 use lib.ListN.{get_elem?}
@@ -81,18 +81,4 @@ told_truly {E} X x reuse bases K L s r id m at d word many o is_due law =
     (grown_trail X x reuse bases z h p d here word o is_due.due low) ∙ ap adds all in
     let told : given ≡ P.answer d (slice_index b.words (register o)) word =
     ap (λ q. l.answer (number_found (slice_index b.words) q) word) is_due.due in
-    record {
-      machine = b;
-      layout = h.layout;
-      rows_are = h.rows_are;
-      words = same;
-      tells = subst (λ w. TurnTells b r.state.trails.log d.core.me d
-          (with_sender_trail (all_in P m.0 d) (P.adds d (slice_index w (register o)) word)).actions
-          (P.answer d (slice_index w (register o)) word)) (sym same)
-          (subst (λ q. TurnTells b r.state.trails.log q d (adds (all_in P m.0 d))
-          (P.answer d (slice_index b.words (register o)) word)) (sym mine)
-          (subst (λ a.
-          TurnTells b r.state.trails.log p d a (P.answer d (slice_index b.words (register o)) word))
-          did
-          (subst (λ a. TurnTells b r.state.trails.log p d (after.actions p) a) told tells)));
-    }
+    grind (arith, slice_index, register)

@@ -1,7 +1,8 @@
 -- What a sender accepts between its steps: its actions as its batch shows them.
-use Rattle.std.proofs.Common.{◌≡◌, ℕ, ◌+◌, ◌≤◌, false, cond, List, [], ◌∷◌, ◌++◌, length, drop}
-use Rattle.std.proofs.Common.{arith, refl, sym, ◌∙◌, ap}
+use Rattle.std.proofs.Common.{◌≡◌, ℕ, ◌+◌, ◌≤◌, false, List, [], ◌∷◌, ◌++◌, length, drop, arith}
+use Rattle.std.proofs.Common.{refl, ◌∙◌, ap}
 use Rattle.std.proofs.lemmas.List.{append-nil, length-append, length-drop, drop_all, drop-append-le}
+use Rattle.std.proofs.lemmas.Grind.{common_steps}
 use Rattle.bus_batch.specs.Batches.{Pending, next_of, CanPut, CanClose}
 use Rattle.bus_batch.specs.declared.batches.Phase.{Phase}
 use Rattle.bus_batch.specs.declared.batches.Phase.TheVariants.{Open, Marking, Closed}
@@ -22,37 +23,13 @@ module _ {C : Type 0} (P : Process C) (L : ProcessLaws P) (c : C) where
     pub longer : length (P.queue c).messages ≤ length (P.queue d).messages
 
   pub stays : (d : C) (actions : List Action) → Accepts P c d actions → Stays d
-  stays d actions Nothing = record {
-    me = refl;
-    table_layout = refl;
-    first = refl;
-    longer = omega arith;
-  }
+  stays d actions Nothing = grind (arith, common_steps)
   stays e all (Message d actions bytes more can small) =
       let h = stays d actions more in
-      let k = L.message d bytes in
-      let waits = L.message_waits d bytes in
-      record {
-        me = k.me ∙ h.me;
-        table_layout = k.table_layout ∙ h.table_layout;
-        first = ap (λ (q : Pending). q.first) waits ∙ h.first;
-        longer =
-            let a = h.longer in
-            let b = length-append (P.queue d).messages (bytes ∷ []) in
-            let size = ap (λ (q : Pending). length q.messages) waits in omega arith;
-      }
+      grind (arith, common_steps, length-append, length)
   stays e all (Marks d actions mark more can) =
       let h = stays d actions more in
-      let k = L.marked d mark in
-      let waits = L.mark_waits d mark in
-      record {
-        me = k.me ∙ h.me;
-        table_layout = k.table_layout ∙ h.table_layout;
-        first = ap (λ (q : Pending). q.first) waits ∙ h.first;
-        longer =
-            let a = h.longer in
-            let size = ap (λ (q : Pending). length q.messages) waits in omega arith;
-      }
+      grind (arith, common_steps, length)
 
 pub puts_from-snoc : (n : ℕ) (xs : List (List ℕ)) (bytes : List ℕ) (k : ℕ) → k ≡ n + length xs
     → puts_from n (xs ++ bytes ∷ []) ≡ puts_from n xs ++ HasPut k bytes ∷ []
@@ -80,33 +57,14 @@ since_message : (before now : Pending) (bytes : List ℕ) → now.first ≡ befo
     ≡ accepted_since before now ++ HasPut (next_of now) bytes ∷ []
 since_message before now bytes first longer can =
     let k = length before.messages in
-    let none : marks_since before.phase now.phase ≡ [] =
-    none_marked before.phase now.phase can.is_open in
-    let moved : drop k (now.messages ++ bytes ∷ []) ≡ drop k now.messages ++ bytes ∷ [] =
-    drop-append-le k now.messages (bytes ∷ []) longer in
-    let size = length-drop k now.messages in
-    ap (λ z. puts_from (next_of before) (drop k (now.messages ++ bytes ∷ [])) ++ z) none
-    ∙ append-nil (puts_from (next_of before) (drop k (now.messages ++ bytes ∷ [])))
-    ∙ ap (puts_from (next_of before)) moved
-    ∙ puts_from-snoc (next_of before) (drop k now.messages) bytes (next_of now) (omega arith)
-    ∙ ap (λ z. z ++ HasPut (next_of now) bytes ∷ [])
-    (sym (append-nil (puts_from (next_of before) (drop k now.messages)))
-    ∙ ap (λ z. puts_from (next_of before) (drop k now.messages) ++ z) (sym none))
+    grind (arith, none_marked, drop, drop-append-le, length-drop, append-nil, puts_from-snoc)
 
 -- with a mark that waits
 since_mark : (before now : Pending) (mark : Mark) → CanClose now → (is_marking before.phase ≡ false)
     → accepted_since before (record now { phase = Marking mark })
     ≡ accepted_since before now ++ HasMarked mark ∷ []
 since_mark before now mark can was =
-    let k = length before.messages in
-    let none : marks_since before.phase now.phase ≡ [] =
-    none_marked before.phase now.phase can.is_open in
-    let marked : marks_since before.phase (Marking mark) ≡ HasMarked mark ∷ [] =
-    ap (λ z. cond z [] (HasMarked mark ∷ [])) was in
-    ap (λ z. puts_from (next_of before) (drop k now.messages) ++ z) marked
-    ∙ ap (λ z. z ++ HasMarked mark ∷ [])
-    (sym (append-nil (puts_from (next_of before) (drop k now.messages)))
-    ∙ ap (λ z. puts_from (next_of before) (drop k now.messages) ++ z) (sym none))
+    grind (arith, common_steps, length, none_marked, drop, append-nil)
 
 module _ {C : Type 0} (P : Process C) (L : ProcessLaws P) (c : C) where
   -- a sender that accepts something had no mark before
@@ -118,10 +76,7 @@ module _ {C : Type 0} (P : Process C) (L : ProcessLaws P) (c : C) where
 
   pub since_is : (d : C) (actions : List Action) → Accepts P c d actions
       → accepted_since (P.queue c) (P.queue d) ≡ actions
-  since_is d actions Nothing =
-      ap (λ z. puts_from (next_of (P.queue c)) z ++ marks_since (P.queue c).phase (P.queue c).phase)
-      (drop_all (length (P.queue c).messages) (P.queue c).messages (omega arith))
-      ∙ marked_once (P.queue c).phase
+  since_is d actions Nothing = grind (arith, common_steps, drop_all, length, marked_once)
   since_is f all (Message d actions bytes more can small) =
       let h = stays P L c d actions more in
       ap (accepted_since (P.queue c)) (L.message_waits d bytes)

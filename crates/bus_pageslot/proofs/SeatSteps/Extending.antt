@@ -1,9 +1,10 @@
 -- A sender's step extends the log, and never makes it shorter.
 use Rattle.std.proofs.Common.{◌≡◌, ℕ, ◌<◌, Option, Some, List, [], ◌∷◌, length, slice_index}
-use Rattle.std.proofs.Common.{slice_set, arith, refl, sym, ◌∙◌, ap, subst}
+use Rattle.std.proofs.Common.{slice_set, arith, refl, ◌∙◌, ap, subst}
 use mathlib.Core.Option.{some}
 use lib.ListN.{get_elem?}
 use Rattle.std.proofs.lemmas.List.{get_or-set_same}
+use Rattle.std.proofs.lemmas.Grind.{common_steps}
 use Rattle.atomic_table.specs.Table.{State}
 use Rattle.bus_register.specs.declared.registers.Op.{Op}
 use Rattle.bus_register.specs.declared.registers.Op.TheVariants.{Load, Store, Add, Cas}
@@ -13,7 +14,7 @@ use Rattle.bus_world.specs.Headline.{IsPrefix}
 use Rattle.bus_world.specs.Turning.{words_after}
 use Rattle.bus_pageslot.specs.declared.rule.View.{View}
 use Rattle.bus_pageslot.specs.declared.rule.View.TheVariants.{Sender}
-use Rattle.bus_automaton.specs.Processes.{TableLayout, Process, Automaton, log_below, log_in}
+use Rattle.bus_automaton.specs.Processes.{TableLayout, Process, Automaton, log_in}
 use Rattle.bus_automaton.specs.Lawful.{AutomatonLaws, ProcessLaws}
 use Rattle.bus_pageslot.specs.Histories.{LeavesLog, LeavesRule}
 use Rattle.bus_pageslot.specs.Rule.{Sat, sender_trail_in, notes_in, stored_in, IsSeated}
@@ -39,9 +40,7 @@ pub same_log : {C : Type 0} {P : Process C} (A : Automaton C) → AutomatonLaws 
     → A.table_layout.passers ≡ 0 → (z w : A.State) → A.IsReached z → A.IsReached w
     → A.words z ≡ A.words w
     → log_in A z ≡ log_in A w
-same_log A L flat z w here there same =
-    sym ((L.log z here).stands flat) ∙ ap (log_below A.table_layout) same
-    ∙ (L.log w there).stands flat
+same_log A L flat z w here there same = grind (arith, common_steps)
 
 module _ {C : Type 0} (P : Process C) (A : Automaton C) (L : AutomatonLaws P A)
     (s : State (Option Page) (View C)) (r : TableInvariant P A s) (id : ℕ) (m : Sat C)
@@ -59,19 +58,7 @@ module _ {C : Type 0} (P : Process C) (A : Automaton C) (L : AutomatonLaws P A)
       let within = subst (λ (x : TableLayout). register o < x.words) is.table_layout due.below in
       let done =
       L.step z (P.me c) d word o grown.changes.reached grown.changes.here due.due within in
-      let before : s.words ≡ A.words z = r.words ∙ sym grown.words in
-      record {
-        state = done.state;
-        reached = done.changes.reached;
-        words_are = done.words ∙ ap (λ w. words_after w (Some o)) (sym before);
-        so = subst (λ l. IsPrefix l (log_in A done.state)) grown.log
-            (front A z done.state done.grows);
-        log = λ flat w there are. subst (IsPrefix (log_in A r.state))
-            (same_log A L flat done.state w done.changes.reached there
-            (done.words ∙ ap (λ w. words_after w (Some o)) (sym before) ∙ sym are))
-            (subst (λ l. IsPrefix l (log_in A done.state)) grown.log
-            (front A z done.state done.grows));
-      }
+      grind (arith, front, same_log)
 
   -- and the rule holds after it
   pub rule_after : ProcessLaws P → (o : Op) → IsDue P d word m many o
@@ -91,11 +78,4 @@ module _ {C : Type 0} (P : Process C) (A : Automaton C) (L : AutomatonLaws P A)
   never_shorter v less due =
       let W = slice_set s.words 0 v in
       let w = extends (Store record { 0 = 0 } v) due in
-      let front = no_shorter (log_in A r.state) (log_in A w.state)
-      w.so in
-      let before = published_many r.state r.reached in
-      let after = published_many w.state w.reached in
-      let was = ap (λ l. slice_index l 0) r.words in
-      let is = ap (λ l. slice_index l 0) w.words_are in
-      let stored : slice_index W 0 ≡ v = get_or-set_same s.words 0 v 0 (has_word s.words v less) in
-      omega arith
+      grind (arith, no_shorter, published_many, slice_index, get_or-set_same, has_word)

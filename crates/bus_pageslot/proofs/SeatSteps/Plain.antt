@@ -2,6 +2,7 @@
 use Rattle.std.proofs.Common.{◌≡◌, ℕ, ◌+◌, ◌<◌, ◌≤◌, ne_eqb, arith, Bool, true, false, cond}
 use Rattle.std.proofs.Common.{Option, Some, None, IsSome, [], refl, sym, ◌∙◌, ap, subst}
 use Rattle.std.proofs.lemmas.Bool.{true≢false}
+use Rattle.std.proofs.lemmas.Grind.{common_steps}
 use Rattle.atomic_table.specs.declared.shared.Seat.{Seat}
 use Rattle.bus_register.specs.declared.registers.Op.{Op}
 use Rattle.bus_register.specs.declared.registers.Op.TheVariants.{Store}
@@ -15,10 +16,8 @@ use Rattle.bus_tenure.specs.Classes.{still_goes}
 use Rattle.bus_world.specs.Headline.{puts}
 use Rattle.rand_core.specs.Stream.{Stream}
 use Rattle.bus_automaton.specs.Lawful.{ProcessLaws}
-use Rattle.bus_automaton.specs.Processes.{Process, EndsBy}
+use Rattle.bus_automaton.specs.Processes.{Process}
 use Rattle.atomic_table.specs.Seated.{TableId}
-use Rattle.bus_pageslot.specs.Rule.{sender_trail_in, notes_in}
-use Rattle.bus_pageslot.specs.declared.rule.View.TheVariants.{Sender}
 use Rattle.bus_pageslot.specs.Seats.{SenderSeat, Shows, TookAndTold, actions_of}
 use Rattle.bus_pageslot.specs.Steps.{stored_by, Gone, IsDue, carried_of, out_with, laid_at}
 use Rattle.bus_pageslot.specs.Steps.{slot_in, slots_emptied}
@@ -36,20 +35,7 @@ module _ {C : Type 0} (P : Process C) (d : C) (stays : P.move d ≡ Stays) where
   pub due_staying : (s : Seat (Option Page) (View C)) (word : ℕ) (o : Op) → Shows P d s
       → P.op d word ≡ Some o → register o < (P.table_layout d).words
       → IsDue P d word s.me s.table_id.words o
-  due_staying s word o shows due below = record {
-    shown = shows.shown;
-    actions = shows.actions;
-    accepts = shows.accepts;
-    me =
-        shows.me
-        ∙ (λ i. (
-          Sender shows.shown (sender_trail_in s.me.0) (notes_in s.me.0),
-          out_with (sym stays i) (carried_of (P.holds d)),
-        ));
-    due = due;
-    below = below;
-    wide = shows.words;
-  }
+  due_staying s word o shows due below = grind (arith, common_steps)
 
   module _ (K : ProcessLaws P) (s s' : Seat (Option Page) (View C)) (word got : ℕ)
       (shows : Shows P d s) (handed : d ≡ P.handed d)
@@ -62,10 +48,7 @@ module _ {C : Type 0} (P : Process C) (d : C) (stays : P.move d ≡ Stays) where
     out = λ i. (s.me.0, out_with (sym stays i) s.me.1)
 
     waits_not : P.awaits d' ≡ false
-    waits_not =
-        ap P.awaits fed
-        ∙ (subst (EndsBy P d (P.fed d got word) (P.after d gone.home got word) gone.home) stays
-        gone.ends).1
+    waits_not = grind (arith, common_steps)
 
     laid : d' ≡ laid_at P d' (P.awaits d') (slot_in s'.me.1)
     laid = λ i. laid_at P d' (sym waits_not i) (slot_in s'.me.1)
@@ -202,9 +185,7 @@ pub takes_plainly : {C : Type 0} {P : Process C} {T : Tellings C} {L : C → Typ
     → TakesOn P T first word n answer old → still_goes answer ≡ true
     → GoesPlainly P T L old count new → TakesOn P T first word (n + count) answer new
 takes_plainly {P = P} {T = T} {first = first} {old = old} {word = word} {n = n} answer _ _ on goes
-    NoneYet =
-    let same : n ≡ n + 0 = omega arith in
-    subst (λ m. TakesOn P T first word m answer old) same on
+    NoneYet = grind (arith, common_steps)
 takes_plainly {P = P} {T = T} {first = first} {word = word} {n = n} answer _ _ on goes
     (Next k mid new row one) =
     let same : n + k + 1 ≡ n + (k + 1) = omega arith in

@@ -1,6 +1,7 @@
 -- Plain stores in a row, of which the sender takes in none before the last.
 use Rattle.std.proofs.Common.{◌≡◌, ℕ, suc, ◌+◌, ◌≤◌, arith, Bool, Option, ◌∙◌}
 use Rattle.std.proofs.Common.{ap, subst}
+use Rattle.std.proofs.lemmas.Grind.{common_steps}
 use Rattle.bus_register.specs.Protocol.{Protocol}
 use Rattle.bus_register.specs.declared.kinds.Kind.{Kind}
 use Rattle.bus_register.specs.declared.registers.Op.{Op}
@@ -76,9 +77,7 @@ pub goes_on : {C : Type 0} {L : C → Type 0} (P : Process C) (T : Tellings C)
     (first : SenderSeat C) (some : ℕ) (mid : SenderSeat C) (more : ℕ) (new : SenderSeat C)
     → GoesPlainly P T L first some mid → GoesPlainly P T L mid more new
     → GoesPlainly P T L first (some + more) new
-goes_on {L = L} P T first some mid _ _ before NoneYet =
-    let same : some ≡ some + 0 = omega arith in
-    subst (λ n. GoesPlainly P T L first n mid) same before
+goes_on {L = L} P T first some mid _ _ before NoneYet = grind (arith, common_steps)
 goes_on {L = L} P T first some mid _ _ before (Next n old new goes one) =
     let same : some + n + 1 ≡ some + (n + 1) = omega arith in
     subst (λ m. GoesPlainly P T L first m new) same

@@ -1,7 +1,7 @@
 -- Turns in a row, and the last of them.
-use Rattle.std.proofs.Common.{◌≡◌, ℕ, ◌+◌, ◌<◌, arith, Bool, true, false, sym, ◌∙◌, ap}
-use Rattle.std.proofs.Common.{subst}
+use Rattle.std.proofs.Common.{◌≡◌, ℕ, ◌+◌, ◌<◌, arith, Bool, true, false, sym, ◌∙◌, subst}
 use Rattle.std.proofs.lemmas.Bool.{true≢false}
+use Rattle.std.proofs.lemmas.Grind.{common_steps}
 use Rattle.bus_tenure.specs.Classes.{still_goes}
 use Rattle.bus_tenure.specs.declared.turns.Turn.{Turn}
 use Rattle.bus_tenure.specs.declared.turns.Turn.TheVariants.{Going}
@@ -10,9 +10,8 @@ use Rattle.rand_core.specs.Stream.{Stream}
 use Rattle.bus_automaton.specs.Lawful.{ProcessLaws}
 use Rattle.bus_automaton.specs.Processes.{Process}
 use Rattle.bus_pageslot.specs.Seats.{SenderSeat, actions_of}
-use Rattle.bus_pageslot.specs.Turns.{Tellings, AsksOn, DrawsOn, TurnsDrawing, word_drawn}
-use Rattle.bus_pageslot.specs.Turns.{GoesPlainly, NoneYet, Next, TakesPlainly, TakesSome}
-use Rattle.bus_pageslot.specs.Turns.{TakesOn, Again}
+use Rattle.bus_pageslot.specs.Turns.{Tellings, AsksOn, DrawsOn, TurnsDrawing, GoesPlainly, NoneYet}
+use Rattle.bus_pageslot.specs.Turns.{Next, TakesPlainly, TakesSome, TakesOn, Again}
 use Rattle.bus_pageslot.proofs.SeatSteps.Plain.{goes_asking, goes_drawing, goes_putting}
 use Rattle.bus_pageslot.proofs.SeatSteps.Plain.{takes_plainly}
 
@@ -100,11 +99,7 @@ takes_some many answer new words takes = record {
   n = takes.n;
   old = takes.old;
   before = takes.before;
-  last = record {
-    word = 0;
-    drawn = ap (λ b. word_drawn b words) (sym takes.wordless);
-    turned = takes.turned;
-  };
+  last = grind (arith, common_steps);
 }
 
 -- so many more behind a turn that answered Going

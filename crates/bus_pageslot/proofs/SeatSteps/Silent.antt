@@ -6,6 +6,7 @@ use Rattle.std.specs.Prelude.{flat_map}
 use Rattle.std.proofs.lemmas.Bool.{true≢false}
 use Rattle.std.proofs.lemmas.List.{length-append, take_all, take_more}
 use Rattle.std.proofs.lemmas.Option.{slice_get_within, get_or_from_slice_get}
+use Rattle.std.proofs.lemmas.Grind.{common_steps}
 use Rattle.bus_batch.specs.declared.messages.Item.{Item}
 use Rattle.bus_batch.specs.declared.messages.Mark.TheVariants as mark
 use Rattle.bus_batch.specs.declared.messages.Piece.{Piece}
@@ -81,10 +82,7 @@ no_plain_end : (senders : ℕ) (words : List ℕ) (got : ℕ) → GivesPiece sen
     → IsLog senders (words ++ got ∷ []) → ⊥
 no_plain_end senders words got gives log =
     let here = gives log.frames [] log.lawful log.words_are in
-    let many = length-log_pieces log.frames in
-    let size = ap length log.words_are in
-    let parts = length-append words (got ∷ []) in
-    last_says log.frames (length words) here (omega arith)
+    grind (arith, common_steps, length-log_pieces, length, length-append, last_says)
 
 -- ---- a receiver's turn
 going_is_none : (found : Option Piece) → turn.Going ≡ turn_of found → found ≡ None

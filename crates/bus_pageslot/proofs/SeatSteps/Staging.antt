@@ -1,11 +1,13 @@
 -- The stage of an open tenure is left by its owner alone, which takes the page.
 use Rattle.std.proofs.Common.{◌≡◌, ◌≢◌, ℕ, ◌*◌, Option, Some, List, slice_index, sym, ◌∙◌, ap}
+use Rattle.std.proofs.Common.{arith}
 use Rattle.std.proofs.lemmas.Option.{same_Some}
+use Rattle.std.proofs.lemmas.Grind.{common_steps}
 use mathlib.Core.Option.{some}
 use lib.ListN.{get_elem?}
 use Rattle.atomic_table.specs.Table.{State}
 use Rattle.bus_core.specs.Senders.{Sender, Does, situation}
-use Rattle.bus_core.specs.Table.{line, line_now}
+use Rattle.bus_core.specs.Table.{line_now}
 use Rattle.bus_machine.proofs.Tenures.Own.{own_of}
 use Rattle.bus_machine.proofs.Tenures.Takes.{owns_page}
 use Rattle.bus_machine.specs.Machine.{found}
@@ -59,12 +61,4 @@ owners_leave {E} X P x y reuse bases L s r id m at d word many o is_due law t is
     (same_turn _ _ opens.own) in
     let own = owner_at X P x y reuse bases z h p d here t
     (own_of d.core.layout.passers d.reuse (situation_of X d.core) (TakesPage t) takes) in
-    record {
-      election = own.election;
-      elects = own.elects;
-      chosen =
-          own.chosen
-          ∙ ap Some (sym (stepping.me_is X x reuse bases L s r id m at d word many o is_due));
-      kind = ap (λ u. (line X d u).kind) takes;
-      step = sym (same_Some _ _ (ap (λ u. (line X d u).op word) (sym takes) ∙ is_due.due));
-    }
+    grind (arith, common_steps, stepping.me_is, same_Some)

@@ -1,6 +1,6 @@
 -- A step that is due of a sender of a table is a turn of the machine behind it.
 use Rattle.std.proofs.Common.{◌≡◌, ℕ, ◌<◌, Option, Some, List, length, slice_get, sym, ◌∙◌, ap}
-use Rattle.std.proofs.Common.{subst}
+use Rattle.std.proofs.Common.{subst, arith}
 use mathlib.Core.Option.{some}
 use lib.ListN.{get_elem?}
 use Rattle.atomic_table.specs.Table.{State}
@@ -93,9 +93,7 @@ module _ {E : Type 0} (X : Election E) (x : Layout) (reuse : Option ℕ) (bases 
   -- the turn happens, and this is so of it
   pub turn_is : (G : Machine E → Event → Answer → Machine E → Type 0) → OfEvents X G x
       → G b (Turn p word) (answer.Turn (turn_answer b l word)) new
-  turn_is G law = law is_history.served b z.trails is_history.layout
-      (subst HasRows (sym is_history.rows_are) is_history.has_rows) is_history.reached _ _ _
-      (takes_turn X x reuse bases z is_history p d here word o is_due.due low)
+  turn_is G law = grind (arith, is_history, takes_turn, here, low)
 
   -- its words
   pub words_now : new.words ≡ words_after b.words (Some o)

@@ -4,20 +4,20 @@ use Rattle.std.proofs.Common.{◌∷◌, arith, refl, sym, ◌∙◌, ap, subst}
 use prog.Atomic.{either}
 use Rattle.std.proofs.lemmas.Bool.{true≢false}
 use Rattle.std.proofs.lemmas.List.{append-nil}
+use Rattle.std.proofs.lemmas.Grind.{common_steps}
 use Rattle.atomic_table.specs.Table.{Allows, rest}
 use Rattle.bus_register.specs.declared.registers.Op.{Op}
 use Rattle.bus_register.specs.Words.{register, after, SumFits}
 use Rattle.bus_tenure.specs.Situations.{PageMove, Stays, Comes, Returns}
 use Rattle.bus_tenure.specs.declared.pages.Page.{Page}
 use Rattle.bus_pageslot.specs.declared.rule.View.TheVariants.{Sender}
-use Rattle.bus_automaton.specs.Processes.{TableLayout, Process, Automaton, IsCounted, EndsBy}
+use Rattle.bus_automaton.specs.Processes.{Process, Automaton, IsCounted, EndsBy}
 use Rattle.bus_automaton.specs.Lawful.{ProcessLaws, AutomatonLaws}
 use Rattle.bus_pageslot.specs.Rule.{Sat, sender_trail_in, notes_in, TableInvariant}
-use Rattle.bus_pageslot.specs.Steps.{laid_from, laid_at, carried_of, out_with, carried_by, slot_in}
-use Rattle.bus_pageslot.specs.Steps.{slots_emptied, since_in, all_in, noted_by, Told, Numbers}
-use Rattle.bus_pageslot.specs.Steps.{Gone, GoesOn, Due}
-use Rattle.bus_pageslot.specs.Steps.Accepts.{Nothing}
-use Rattle.bus_automaton.specs.SenderTrails.{SenderTrail, with_actions, with_sender_trail}
+use Rattle.bus_pageslot.specs.Steps.{laid_at, carried_of, out_with, carried_by, slot_in}
+use Rattle.bus_pageslot.specs.Steps.{slots_emptied, all_in, noted_by, Told, Numbers, Gone, GoesOn}
+use Rattle.bus_pageslot.specs.Steps.{Due}
+use Rattle.bus_automaton.specs.SenderTrails.{SenderTrail, with_sender_trail}
 use Rattle.bus_pageslot.proofs.SeatSteps.Accepting.{since_is}
 use Rattle.bus_pageslot.proofs.Ruled.Ties.{goes_allowed}
 
@@ -56,11 +56,7 @@ pub record Ends {C : Type 0} (P : Process C) (s s' : C) (carried : List (ℕ × 
 module _ {C : Type 0} (P : Process C) (d s s' : C) (home : Option Page) where
   ends_plain : (carried : List (ℕ × Option Page)) → s' ≡ s → P.awaits s ≡ false
       → carried ≡ carried_of (P.holds s') → Ends P s s' carried
-  ends_plain carried same none slot = record {
-    page = λ awaits. absurd (true≢false (sym awaits ∙ none));
-    core = ap (λ b. laid_at P s b (slot_in carried)) none ∙ sym same;
-    slot = ap (λ b. slots_emptied b carried) none ∙ slot;
-  }
+  ends_plain carried same none slot = grind (arith, common_steps, true≢false)
 
   ends_by : (move : PageMove) → EndsBy P d s s' home move
       → ((t : ℕ) → move ≡ Comes t → (page : Page) × (home ≡ Some page))
@@ -71,9 +67,7 @@ module _ {C : Type 0} (P : Process C) (d s s' : C) (home : Option Page) where
       let none : carried_of (P.holds d) ≡ [] = ap carried_of h.1 in
       record {
         page = λ awaits. (page.0, λ i. (0, page.1 i) ∷ none i);
-        core =
-            ap (λ b. laid_at P s b home) h.0 ∙ ap (laid_from P s) page.1
-            ∙ sym (h.2 page.0 page.1).0;
+        core = grind (arith, common_steps);
         slot =
             ap (λ b. slots_emptied b ((0, home) ∷ carried_of (P.holds d))) h.0
             ∙ ap (λ l. (0, None) ∷ l) none ∙ ap carried_of (sym (h.2 page.0 page.1).1);
@@ -90,17 +84,10 @@ module _ {C : Type 0} (P : Process C) (K : ProcessLaws P) (d : C) where
     fed_is = fed ∙ ap (λ k. P.fed k got word) put ∙ K.handed_fed d got word
 
     out_is : m2.1 ≡ carried_by (P.move d) gone.home (out_with (P.move d) (carried_of (P.holds d)))
-    out_is =
-        ap (λ (y : Sat C). y.1) gone.now
-        ∙ ap (λ (y : Sat C). carried_by (P.move d) gone.home y.1) put_me
-        ∙ ap (λ y. carried_by (P.move d) gone.home (out_with (P.move d) y)) carried
+    out_is = cc
 
     pub ended : Ends P d2 (P.after d gone.home got word) m2.1
-    ended = subst
-        (λ (y : C × List (ℕ × Option Page)). Ends P y.0 (P.after d gone.home got word) y.1)
-        (λ i. (sym fed_is i, sym out_is i))
-        (ends_by P d (P.fed d got word) (P.after d gone.home got word) gone.home (P.move d)
-        gone.ends gone.taken)
+    ended = grind (arith, common_steps, fed_is, out_is, ends_by)
 
     module _ (m3 : Sat C) (d3 : C) (laid_is : d3 ≡ laid_at P d2 (P.awaits d2) (slot_in m2.1))
         (me_is : m3 ≡ (m2.0, slots_emptied (P.awaits d2) m2.1)) where
@@ -109,16 +96,11 @@ module _ {C : Type 0} (P : Process C) (K : ProcessLaws P) (d : C) where
 
       sender_trail_now : sender_trail_in m3.0
           ≡ with_sender_trail (all_in P m.0 d) (P.adds d gone.found word)
-      sender_trail_now =
-          ap (λ (y : Sat C). sender_trail_in y.0) me_is
-          ∙ ap (λ (y : Sat C). sender_trail_in y.0) gone.now
-          ∙ ap (λ (y : Sat C). with_sender_trail (all_in P y.0 d) (P.adds d gone.found word)) put_me
+      sender_trail_now = cc
 
       same_trail : with_sender_trail (all_in P m1.0 d) (P.adds d gone.found word)
           ≡ sender_trail_in m3.0
-      same_trail =
-          sym (ap (λ (y : Sat C). sender_trail_in y.0) gone.now)
-          ∙ sym (ap (λ (y : Sat C). sender_trail_in y.0) me_is)
+      same_trail = cc
 
       pub laid_now : P.awaits d3 ≡ false
       laid_now = ap P.awaits core_is ∙ gone.laid
@@ -128,39 +110,18 @@ module _ {C : Type 0} (P : Process C) (K : ProcessLaws P) (d : C) where
           (λ i. (sym core_is i, same_trail i)) gone.numbered
 
       pub notes_now : notes_in m3.0 ≡ noted_by (P.op d word) (notes_in m.0)
-      notes_now =
-          ap (λ (y : Sat C). notes_in y.0) me_is ∙ ap (λ (y : Sat C). notes_in y.0) gone.now
-          ∙ ap (λ (y : Sat C). noted_by (P.op d word) (notes_in y.0)) put_me
+      notes_now = cc
 
       pub me_now : m3 ≡ (Sender d3 (sender_trail_in m3.0) (notes_in m3.0), carried_of (P.holds d3))
-      me_now = me_is
-          ∙ (λ i. ((gone.now i).0, ended.slot i))
-          ∙ (λ i. (
-            Sender (sym core_is i) (with_sender_trail (all_in P m1.0 d) (P.adds d gone.found word))
-                (noted_by (P.op d word) (notes_in m1.0)),
-            carried_of (P.holds (sym core_is i)),
-          ))
-          ∙ (λ i. (Sender d3 (same_trail i) (same_notes i), carried_of (P.holds d3)))
-        where
-          same_notes : noted_by (P.op d word) (notes_in m1.0) ≡ notes_in m3.0
-          same_notes =
-              sym (ap (λ (y : Sat C). notes_in y.0) gone.now)
-              ∙ sym (ap (λ (y : Sat C). notes_in y.0) me_is)
+      me_now = grind (arith, common_steps, ended, core_is, same_trail)
 
       -- nothing was accepted since
       pub all_now : all_in P m3.0 d3 ≡ with_sender_trail (all_in P m.0 d) (P.adds d gone.found word)
-      all_now =
-          ap (with_actions (sender_trail_in m3.0))
-          (ap (λ (y : Sat C). since_in P y.0 d3) me_now ∙ since_is P K d3 d3 [] Nothing)
-          ∙ ap (λ l. record (sender_trail_in m3.0) { actions = l })
-          (append-nil (sender_trail_in m3.0).actions) ∙ sender_trail_now
+      all_now = grind (arith, common_steps, me_now, since_is, append-nil, sender_trail_now)
 
       pub counted_now : IsCounted P d3
       counted_now = subst (IsCounted P) (sym core_is) gone.counted
 
       pub wide_now : (words : ℕ) → words ≡ (P.table_layout d).words
           → words ≡ (P.table_layout d3).words
-      wide_now words e =
-          e
-          ∙ ap (λ (x : TableLayout). x.words)
-          (sym (ap P.table_layout core_is ∙ K.same_table_layout d gone.home got word))
+      wide_now words e = grind (arith, common_steps, core_is)

@@ -1,12 +1,12 @@
 -- What a turn, and a sending, makes of the messages that wait; and of batches that a sender fills
 -- and sends off.
-use Rattle.std.proofs.Common.{◌≡◌, ℕ, ◌<◌, ◌≤◌, ◌-◌, true, Option, Some, None, List, [], ◌∷◌, ◌++◌}
+use Rattle.std.proofs.Common.{◌≡◌, ℕ, ◌<◌, ◌≤◌, ◌-◌, true, Option, Some, None, List, [], ◌++◌}
 use Rattle.std.proofs.Common.{length, take, slice_get, arith, refl, sym, ◌∙◌, ap, subst}
 use Rattle.std.proofs.Common.{append_assoc, inl, inr}
 use Rattle.std.specs.Prelude.{◌⊎◌, Result, Ok, Err, OnOk}
 use Rattle.std.proofs.lemmas.List.{append-nil, length-append}
+use Rattle.std.proofs.lemmas.Grind.{common_steps}
 use Rattle.bus_register.specs.declared.registers.Op.{Op}
-use Rattle.bus_batch.specs.Batches.{Pending}
 use Rattle.bus_batch.specs.declared.batches.PutFault.{PutFault}
 use Rattle.bus_batch.specs.declared.batches.PutFault.TheVariants as put
 use Rattle.bus_tenure.specs.declared.turns.Turn.{Turn}
@@ -16,7 +16,7 @@ use Rattle.bus_pageslot.specs.declared.seats.SendFault.TheVariants as fault
 use Rattle.bus_pageslot.specs.declared.seats.Unsent.{Unsent}
 use Rattle.bus_automaton.specs.Processes.{Process}
 use Rattle.bus_automaton.specs.Lawful.{ProcessLaws}
-use Rattle.bus_pageslot.specs.Seats.{SenderSeat, Took, actions_of}
+use Rattle.bus_pageslot.specs.Seats.{SenderSeat, actions_of}
 use Rattle.bus_pageslot.specs.Turns.{Tellings, Turned, TurnsOn, Here, More, Sends}
 use Rattle.bus_tenure.specs.Classes.{is_last, is_refusal}
 use Rattle.bus_pageslot.specs.Sendings.{waiting_of, SendsOff, Keeps, KeepsFor, FillsBatches}
@@ -30,14 +30,7 @@ module _ {C : Type 0} (P : Process C) (T : Tellings C) (K : ProcessLaws P) where
 
   turned_left : (old : SenderSeat C) (word : ℕ) (a : Turn) (new : SenderSeat C)
       → Turned P T old word a new → Left old new
-  turned_left old word a new h = by_step (P.op old.core word) refl
-    where
-      by_step : (o : Option Op) → P.op old.core word ≡ o → Left old new
-      by_step None e = inl (ap (λ s. waiting_of P s) (h.rests e).0)
-      by_step (Some op) e =
-          let took : Took P old word a new = (h.steps op e).took in
-          subst (λ s. ((P.queue s).messages ≡ waiting_of P old) ⊎ ((P.queue s).messages ≡ []))
-          (sym took.core) (K.leaves old.core took.home took.got word)
+  turned_left old word a new h = grind (arith, common_steps)
 
   turned_refused : (old : SenderSeat C) (word : ℕ) (a : Turn) (new : SenderSeat C)
       → Turned P T old word a new → is_last a ≡ true → 0 < length (waiting_of P new)
@@ -46,17 +39,8 @@ module _ {C : Type 0} (P : Process C) (T : Tellings C) (K : ProcessLaws P) where
     where
       by_step : (o : Option Op) → P.op old.core word ≡ o → is_last a ≡ true
           → 0 < length (waiting_of P new) → is_refusal a ≡ true
-      by_step None e =
-          let rested = h.rests e in
-          subst (λ (y : Turn × SenderSeat C).
-          is_last y.0 ≡ true → 0 < length (waiting_of P y.1) → is_refusal y.0 ≡ true)
-          (λ i. (sym rested.1 i, sym rested.0 i)) (K.refuses_at_rest old.core)
-      by_step (Some op) e =
-          let took : Took P old word a new = (h.steps op e).took in
-          subst (λ (y : Turn × C).
-          is_last y.0 ≡ true → 0 < length (P.queue y.1).messages → is_refusal y.0 ≡ true)
-          (λ i. (sym took.answer i, sym took.core i))
-          (K.refuses old.core word op e took.home took.got)
+      by_step None e = grind (arith, common_steps, length)
+      by_step (Some op) e = grind (arith, common_steps, length)
 
   then_left : (first old new : SenderSeat C) → Left first old → Left old new → Left first new
   then_left first old new (inl before) (inl now) = inl (now ∙ before)
@@ -76,23 +60,15 @@ module _ {C : Type 0} (P : Process C) (T : Tellings C) (K : ProcessLaws P) where
 
   pub keeps : (old : SenderSeat C) (answer : Turn) (new : SenderSeat C) → Sends P T old answer new
       → 0 < length (waiting_of P new) → Keeps P T old answer new
-  keeps old answer new h some = record {
-    sends = h;
-    refused = turned_refused h.old h.word answer new h.turned h.last some;
-    waits = some;
-    same = kept_one old new (then_left old h.old new (turns_left old h.old h.before)
-        (turned_left h.old h.word answer new h.turned)) some;
-  }
+  keeps old answer new h some =
+      grind (arith, common_steps, turned_refused, kept_one, then_left, turns_left, turned_left)
 
   -- ---- batches
   pub fills_few : (first : SenderSeat C) (messages : List (List ℕ)) (new : SenderSeat C)
       → FillsBatches P T first messages new → length (waiting_of P new) ≤ 16
   fills_few first _ _ (SentBefore new off) = let size = ap length off.none in omega arith
   fills_few first _ _ (Put messages old bytes new before takes) =
-      let size = ap (λ (s : C). length (P.queue s).messages) takes.core in
-      let joins = ap (λ (q : Pending). length q.messages) (K.message_waits old.core bytes) in
-      let more = length-append (waiting_of P old) (bytes ∷ []) in
-      let room = takes.could.room in omega arith
+      grind (arith, common_steps, length, length-append)
   fills_few first _ _ (SentFull messages old new before full off) =
       let size = ap length off.none in omega arith
 
@@ -104,30 +80,16 @@ module _ {C : Type 0} (P : Process C) (T : Tellings C) (K : ProcessLaws P) where
   }
   fills_waits first _ _ (Put messages old bytes new before takes) =
       let h : WaitsOf P first messages old = fills_waits first messages old before in
-      let more : waiting_of P old ++ bytes ∷ [] ≡ waiting_of P new = sym
-      (ap (λ (s : C). (P.queue s).messages) takes.core
-      ∙ ap (λ (q : Pending). q.messages) (K.message_waits old.core bytes)) in
-      record {
-        gone = h.gone;
-        waits =
-            sym (append_assoc (waiting_of P first) messages (bytes ∷ []))
-            ∙ ap (λ l. l ++ bytes ∷ []) h.waits
-            ∙ append_assoc h.gone (waiting_of P old) (bytes ∷ []) ∙ ap (λ l. h.gone ++ l) more;
-      }
+      grind (arith, append_assoc)
   fills_waits first _ _ (SentFull messages old new before full off) = record {
     gone = waiting_of P first ++ messages;
-    waits =
-        sym (append-nil (waiting_of P first ++ messages))
-        ∙ ap (λ l. (waiting_of P first ++ messages) ++ l) (sym off.none);
+    waits = grind (arith, common_steps, append-nil);
   }
 
   keeps_waits : (first : SenderSeat C) (messages : List (List ℕ)) (old : SenderSeat C)
       (answer : Turn) (new : SenderSeat C) → WaitsOf P first messages old → Keeps P T old answer new
       → WaitsOf P first messages new
-  keeps_waits first messages old answer new h k = record {
-    gone = h.gone;
-    waits = h.waits ∙ ap (λ l. h.gone ++ l) (sym k.same);
-  }
+  keeps_waits first messages old answer new h k = grind (arith, common_steps)
 
   pub has_sent : (first : SenderSeat C) (messages : List (List ℕ)) (old new : SenderSeat C)
       → FillsBatches P T first messages old → SendsOff P T old new → HasSent P T first messages new
@@ -201,11 +163,8 @@ module _ {C : Type 0} (P : Process C) (T : Tellings C) (K : ProcessLaws P) where
     ends_at : (count : ℕ) (why : SendFault)
         → StopsAt P T first (take count messages) (slice_get messages count) why new
         → Ends count why
-    ends_at count (fault.Put why) h = record {
-      can = can_refuse new (slice_get messages count) why h.1;
-      puts_are = fills_puts P T K first (take count messages) new h.0;
-      waits = fills_waits first (take count messages) new h.0;
-    }
+    ends_at count (fault.Put why) h =
+        grind (arith, common_steps, can_refuse, slice_get, fills_puts, take, fills_waits)
     ends_at count (fault.Turn answer) h =
         let old = h.0 in
         let stays = h.3 in
@@ -231,11 +190,4 @@ module _ {C : Type 0} (P : Process C) (T : Tellings C) (K : ProcessLaws P) where
         (λ (y : ℕ × SendFault). Stops P T first messages y.0 y.1 new)
         (λ i. (sym is.0 i, sym is.1 i)) stops in
         let h : Ends unsent.put unsent.fault = ends unsent.put unsent.fault now in
-        record {
-          few = (let e = is.0 in omega arith);
-          stops = now;
-          can = h.can;
-          puts_are = h.puts_are;
-          waits = h.waits;
-          sent_is = sent ∙ ap (λ k. k - length (waiting_of P new)) (sym is.0);
-        }
+        grind (arith, common_steps, length)

@@ -1,19 +1,18 @@
 -- What waits with one sender, put into the batch of another.
-use Rattle.std.proofs.Common.{◌≡◌, ℕ, ◌+◌, ◌<◌, ◌≤◌, true, false, get_or, take, drop, List, []}
-use Rattle.std.proofs.Common.{◌∷◌, ◌++◌, length, arith, refl, sym, ◌∙◌, ap, subst, append_assoc}
-use Rattle.std.proofs.Common.{inl, inr}
+use Rattle.std.proofs.Common.{◌≡◌, ℕ, ◌+◌, ◌<◌, ◌≤◌, get_or, take, drop, List, [], ◌∷◌, ◌++◌}
+use Rattle.std.proofs.Common.{length, arith, refl, sym, ◌∙◌, ap, append_assoc, inl, inr}
 use Rattle.std.proofs.lemmas.List.{append-nil, length-append, take_more, take-append-drop}
+use Rattle.std.proofs.lemmas.Grind.{common_steps}
 use Rattle.bus_batch.specs.Batches.{Pending, next_of, IsShut, IsPutFault}
 use Rattle.bus_batch.specs.declared.batches.Phase.TheVariants.{Open, Marking, Closed}
 use Rattle.bus_batch.specs.declared.batches.PutFault.{PutFault}
-use Rattle.bus_batch.specs.declared.batches.PutFault.TheVariants as put
 use Rattle.bus_core.specs.Senders.{Sender}
 use Rattle.bus_world.specs.Headline.{HasPut}
 use Rattle.bus_automaton.specs.Processes.{Process}
 use Rattle.bus_automaton.specs.Lawful.{ProcessLaws}
 use Rattle.bus_pageslot.specs.Seats.{SenderSeat, actions_of}
 use Rattle.bus_pageslot.specs.Sendings.{waiting_of, TakesAll, TakesNone, TakesMore, Carries}
-use Rattle.bus_pageslot.specs.Sendings.{MayFit, CarryRefused}
+use Rattle.bus_pageslot.specs.Sendings.{CarryRefused}
 use Rattle.bus_pageslot.specs.Steps.{puts_from}
 use Rattle.bus_pageslot.proofs.SeatSteps.Accepting.{puts_from-snoc}
 
@@ -77,11 +76,7 @@ module _ {C : Type 0} (P : Process C) (K : ProcessLaws P) where
 
   pub carries : (from old new : SenderSeat C) → TakesAll P old (waiting_of P from) new
       → Carries P from old new
-  carries from old new h = record {
-    takes = h;
-    actions = takes_actions old (waiting_of P from) new h;
-    waits = takes_waits old (waiting_of P from) new h;
-  }
+  carries from old new h = grind (arith, common_steps, takes_actions, takes_waits)
 
   -- ---- where one is refused
   -- who has taken a message takes another, where that fits and is not too long
@@ -92,23 +87,7 @@ module _ {C : Type 0} (P : Process C) (K : ProcessLaws P) where
       → (messages ≡ []) × (new ≡ old)
   goes_on old _ _ next TakesNone room short why cause = (refl, refl)
   goes_on old _ _ next (TakesMore messages last bytes new before takes) room short why cause =
-      absurd (by_cause why cause)
-    where
-      queue_is : P.queue new.core
-          ≡ record (P.queue last.core) { messages = (P.queue last.core).messages ++ bytes ∷ [] }
-      queue_is = ap P.queue takes.core ∙ K.message_waits last.core bytes
-
-      is_open : (P.queue new.core).phase ≡ Open
-      is_open = ap (λ (q : Pending). q.phase) queue_is ∙ takes.could.is_open
-
-      by_cause : (why : PutFault) → IsPutFault (P.queue new.core) (length next) why → ⊥
-      by_cause put.Closed shut = open_shut (P.queue new.core) is_open shut
-      by_cause put.Busy busy =
-          let e : true ≡ false =
-          sym busy.1 ∙ ap (λ (q : Pending). q.busy) queue_is ∙ takes.could.idle in
-          cc
-      by_cause put.TooLong long = let l = long.2 in omega arith
-      by_cause put.BatchFull full = let f = full.3 in omega arith
+      grind (arith, common_steps, length, open_shut)
 
 module _ {E : Type 0} (P : Process (Sender E)) (K : ProcessLaws P) where
   -- so the first is refused, if any is
@@ -119,23 +98,4 @@ module _ {E : Type 0} (P : Process (Sender E)) (K : ProcessLaws P) where
       → (why : PutFault) → IsPutFault (P.queue new.core) (length next) why
       → (new ≡ old) × CarryRefused P from old why
   refused from old messages rest next new h all room short why cause =
-      let waits = ap length (takes_waits P K old messages new h) in
-      let joined = length-append (waiting_of P old) messages in
-      let size = ap length all in
-      let more = length-append messages (next ∷ rest) in
-      let first = goes_on P K old messages new next h (omega arith) short why cause in
-      let fits : MayFit P from old = record { some = omega arith; room = room } in (
-        first.1,
-        by_cause why fits (omega arith)
-            (subst (λ (s : SenderSeat (Sender E)). IsPutFault (P.queue s.core) (length next) why)
-            first.1
-            cause),
-      )
-    where
-      by_cause : (why : PutFault) → MayFit P from old → length (waiting_of P old) < 16
-          → IsPutFault (P.queue old.core) (length next) why
-          → CarryRefused P from old why
-      by_cause put.Closed fits few shut = (fits, shut)
-      by_cause put.Busy fits few busy = inr (fits, busy)
-      by_cause put.TooLong fits few long = absurd (let l = long.2 in omega arith)
-      by_cause put.BatchFull fits few full = absurd (let f = full.3 in omega arith)
+      grind (arith, common_steps, length, takes_waits, length-append, goes_on)

@@ -1,12 +1,12 @@
 -- A step of a sender is one step more that its seat shows.
-use Rattle.std.proofs.Common.{◌≡◌, inl, inr, ℕ, ◌+◌, ◌<◌, ◌≤◌, Bool, false, Option, Some, None}
-use Rattle.std.proofs.Common.{is_some, cond, List, [], ◌∷◌, ◌++◌, length, drop, arith, refl, sym}
-use Rattle.std.proofs.Common.{◌∙◌, ap}
+use Rattle.std.proofs.Common.{◌≡◌, ℕ, ◌+◌, ◌<◌, ◌≤◌, Bool, false, Option, Some, None, is_some}
+use Rattle.std.proofs.Common.{List, [], ◌∷◌, ◌++◌, length, drop, arith, refl, ap}
 use Rattle.std.proofs.lemmas.Bool.{cases_lt}
 use Rattle.std.proofs.lemmas.Bool.Decides.{eqb_tells}
 use Rattle.std.proofs.lemmas.List.{length-append}
+use Rattle.std.proofs.lemmas.Grind.{common_steps}
 use Rattle.bus_adoptcommit.specs.declared.verdicts.Verdict.{Verdict}
-use Rattle.bus_batch.specs.Batches.{Pending, next_of}
+use Rattle.bus_batch.specs.Batches.{Pending}
 use Rattle.bus_batch.specs.declared.batches.Phase.{Phase}
 use Rattle.bus_batch.specs.declared.batches.Phase.TheVariants.{Open, Marking, Closed}
 use Rattle.bus_core.specs.Senders.{Situation, Does, Announces, Validates, Unpins, Withdraws, Scans}
@@ -59,12 +59,7 @@ marks_are_none before Closed = refl
 
 accepted_are_none : (before now : Pending) → steps_among (accepted_since before now) ≡ 0
 accepted_are_none before now =
-    let put : List Action =
-    puts_from (next_of before) (drop (length before.messages) now.messages) in
-    let parts = steps_among-append put (marks_since before.phase now.phase) in
-    let a = puts_are_none (next_of before) (drop (length before.messages) now.messages) in
-    let b = marks_are_none before.phase now.phase in
-    omega arith
+    grind (arith, common_steps, drop, length, steps_among-append, puts_are_none, marks_are_none)
 
 since_is_none : {C : Type 0} (P : Process C) (v : View C) (d : C) → steps_among (since_in P v d) ≡ 0
 since_is_none P (Maker x made) d = refl
@@ -76,20 +71,12 @@ since_is_none P Spent d = refl
 
 all_counted : {C : Type 0} (P : Process C) (v : View C) (d : C)
     → steps_in (all_in P v d) ≡ steps_in (sender_trail_in v)
-all_counted P v d =
-    let t : SenderTrail = sender_trail_in v in
-    let parts = steps_among-append t.actions (since_in P v d) in
-    let none = since_is_none P v d in
-    omega arith
+all_counted P v d = grind (arith, common_steps, steps_among-append, since_is_none)
 
 -- ---- a step is one
 more_counted : (t more : SenderTrail)
     → steps_in (with_sender_trail t more) ≡ steps_in t + steps_in more
-more_counted t more =
-    let a = steps_among-append t.actions more.actions in
-    let b = length-append t.pins more.pins in
-    let c = length-append t.reclaims more.reclaims in
-    omega arith
+more_counted t more = grind (arith, common_steps, steps_among-append, length-append)
 
 some_kind : (due : Option Kind) (o : Op) (t : Option ℕ) (got : ℕ) (chose : Option ℕ) (answer : Turn)
     → is_some due ≡ is_some (Some o)
@@ -103,10 +90,7 @@ one_entry due o got e = ap (λ d. length (entries d got)) e
 line_counted : {E : Type 0} (z : Situation E) (l : Line E) (got word : ℕ) (o : Op)
     → l.op word ≡ Some o → is_some l.kind ≡ is_some (l.op word)
     → steps_in (adds_by z l got word) ≡ 1
-line_counted (Does y) l got word o due named =
-    let h = some_kind l.kind o l.tenure got (l.chosen got word) (l.answer got word)
-    (named ∙ ap is_some due) in
-    omega arith
+line_counted (Does y) l got word o due named = grind (arith, common_steps, some_kind, is_some)
 line_counted (Announces t) l got word o due named =
     let h = one_entry (l.op word) o got due in omega arith
 line_counted (Validates t) l got word o due named =
@@ -120,9 +104,7 @@ line_counted (Scans s) l got word o due named =
 line_counted (Clears s) l got word o due named =
     let h = one_entry (l.op word) o got due in omega arith
 line_counted (ReadsPassed t p) l got word o due named =
-    let h = some_kind l.kind o l.tenure got (l.chosen got word) (l.answer got word)
-    (named ∙ ap is_some due) in
-    omega arith
+    grind (arith, common_steps, some_kind, is_some)
 
 -- what each step adds to the trail is one step
 abbrev pub CountsOne : {C : Type 0} → Process C → Type 0
@@ -148,9 +130,7 @@ module _ {C : Type 0} (P : Process C) (one : CountsOne P) where
       let now = ap (λ (y : Sat C). steps_shown y.0) gone.now in
       let before = ap (λ (y : Sat C). steps_shown y.0) due.me in
       let more = more_counted (all_in P m.0 d) (P.adds d gone.found word) in
-      let all = all_counted P m.0 d in
-      let step = one d gone.found word o due.due in
-      omega arith
+      grind (arith, common_steps, all_counted)
 
   -- and so does its trail, of a turn
   pub took_counted : (old new : SenderSeat C) (word : ℕ) (answer : Turn) (o : Op)
@@ -173,31 +153,18 @@ passes_noted {C} x e answer m going due h =
 -- and the word that it is of is noted
 due_at_length : (x : TableLayout) (e : ReceiverView) → e.place ≡ length e.known
     → due_load x e ≡ length_at
-due_at_length x e same = elim (eqb_tells e.place (length e.known)) [
-  | inl i ↦ ap (λ b. cond b length_at (log_cell x e.place)) i.0
-  | inr i ↦ absurd (i.1 same)
-]
+due_at_length x e same = grind (arith, common_steps, eqb_tells, length)
 
 due_at_word : (x : TableLayout) (e : ReceiverView) → e.place < length e.known
     → due_load x e ≡ log_cell x e.place
-due_at_word x e below = elim (eqb_tells e.place (length e.known)) [
-  | inl i ↦ absurd (let same = i.1 in omega (arith, below))
-  | inr i ↦ ap (λ b. cond b length_at (log_cell x e.place)) i.0
-]
+due_at_word x e below = grind (arith, common_steps, eqb_tells, length)
 
 pub hears_noted : {C : Type 0} (x : TableLayout) (e : ReceiverView) (answer : RecvTurn) (m : Sat C)
     → e.ended ≡ false → (PassIsDue x e → ⊥) → e.place ≤ length e.known
     → Hears (Tap x e, []) answer m
     → (receiver_view_in m.0).loads ≡ e.loads ++ due_load x e ∷ []
-hears_noted {C} x e answer m going not_due within h = elim (cases_lt e.place (length e.known)) [
-  | inl l ↦
-      ap (λ (y : Sat C). (receiver_view_in y.0).loads) (h.at_word going not_due l).finds.now
-      ∙ ap (λ w. e.loads ++ w ∷ []) (sym (due_at_word x e l))
-  | inr l ↦
-      let same : e.place ≡ length e.known = omega arith in
-      ap (λ (y : Sat C). (receiver_view_in y.0).loads) (h.at_length going not_due same).finds.now
-      ∙ ap (λ w. e.loads ++ w ∷ []) (sym (due_at_length x e same))
-]
+hears_noted {C} x e answer m going not_due within h =
+    grind (arith, common_steps, cases_lt, length, due_at_word, due_at_length)
 
 -- whichever it is, its seat shows one step more
 pub hears_counted :
@@ -205,20 +172,4 @@ pub hears_counted :
     → e.ended ≡ false → e.place ≤ length e.known → Hears (Tap x e, []) answer m
     → steps_shown m.0 ≡ length e.loads + 1
 hears_counted {C} x e answer m going within h =
-    let not_due_counts : (PassIsDue x e → ⊥) → steps_shown m.0 ≡ length e.loads + 1 = λ not_due.
-    elim (cases_lt e.place (length e.known)) [
-      | inl l ↦
-          ap (λ (y : Sat C). steps_shown y.0) (h.at_word going not_due l).finds.now
-          ∙ length-append e.loads ((log_cell x e.place) ∷ [])
-      | inr l ↦
-          let same : e.place ≡ length e.known = omega arith in
-          ap (λ (y : Sat C). steps_shown y.0) (h.at_length going not_due same).finds.now
-          ∙ length-append e.loads (length_at ∷ [])
-    ] in
-    let due_counts : PassIsDue x e → steps_shown m.0 ≡ length e.loads + 1 = λ due.
-    ap (λ (y : Sat C). steps_shown y.0) (h.at_pass going due).1
-    ∙ length-append e.loads ((passed_word x e.me) ∷ []) in
-    elim (eqb_tells (steps_shown m.0) (length e.loads + 1)) [
-      | inl same ↦ same.1
-      | inr other ↦ absurd (other.1 (not_due_counts (λ due. other.1 (due_counts due))))
-    ]
+    grind (arith, common_steps, length, cases_lt, length-append, eqb_tells)

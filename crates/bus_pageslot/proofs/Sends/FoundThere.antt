@@ -8,16 +8,16 @@ use mathlib.Core.Option as maybe
 use lib.ListN.{get_elem?}
 use Rattle.std.proofs.lemmas.List.{append-nil, length-append, length-map}
 use Rattle.std.proofs.lemmas.Option.{same_Some, slice_get_within}
+use Rattle.std.proofs.lemmas.Grind.{common_steps}
 use Rattle.atomic_table.specs.Table.{State}
 use Rattle.bus_register.specs.declared.limits.TheConstants.{MOST_SENDERS}
 use Rattle.bus_batch.specs.Batches.{Pending, next_of}
 use Rattle.bus_batch.specs.declared.messages.Item.{Item}
 use Rattle.bus_deliverylog.specs.Orders.{of_sender}
-use Rattle.bus_core.specs.Keeping.{new_sender, new_reuse}
+use Rattle.bus_core.specs.Keeping.{new_sender}
 use Rattle.bus_core.specs.Senders.{Sender}
 use Rattle.bus_core.specs.Reusing.Keeping.{held_of}
 use Rattle.bus_machine.specs.Machine.{Machine, Trails, stage_of}
-use Rattle.bus_machine.specs.Promise.{IsPagedBy}
 use Rattle.bus_tenure.specs.Core.{Core, Election, Layout}
 use Rattle.bus_tenure.specs.declared.pages.Page.{Page}
 use Rattle.bus_tenure.specs.declared.phases.Phase.{Phase}
@@ -113,12 +113,7 @@ module _ {C : Type 0} (P : Process C) (K : ProcessLaws P) (c : C) where
             )
       ]
   more_answered did h e _ (Marks d actions mark more can) k message at =
-      let same = ap (λ (q : Pending). slice_get q.messages k) (sym (K.mark_waits d mark)) in
-      let w = more_answered did h d actions more k message (same ∙ at) in (
-        w.0,
-        ap (λ l. slice_get l w.0) (sym (append_assoc did actions (HasMarked mark ∷ [])))
-            ∙ got_before (did ++ actions) (HasMarked mark ∷ []) w.0 _ w.1,
-      )
+      grind (arith, common_steps, slice_get, append_assoc, got_before)
 
 -- ---- while the page is at home
 -- who holds no page has all that waits in its batch
@@ -162,9 +157,7 @@ module _ {E : Type 0} (X : Election E) (x : Layout) (reuse : Option ℕ) (bases 
       let one = (L.senders h.history me v h.reached there).below in omega arith
 
   stage : stage_of m ≡ 2 * page.tenures
-  stage =
-      (subst (IsPagedBy (stage_of m) (slice_index m.words 0) h.promised.order.ended) at_home
-      h.promised.by.paged).0
+  stage = grind (arith, common_steps, slice_index, at_home)
 
   waits : waiting_at v.core v.core.phase ≡ v.core.queue.messages
   waits = all_wait v.core v.core.phase
@@ -172,19 +165,13 @@ module _ {E : Type 0} (X : Election E) (x : Layout) (reuse : Option ℕ) (bases 
 
   sent : puts (T.actions me)
       ≡ map (λ (i : Item). i.message) (of_sender me h.promised.order) ++ v.core.queue.messages
-  sent =
-      h.promised.by.sent me v there
-      ∙ ap (λ l. map (λ (i : Item). i.message) (of_sender me h.promised.order) ++ l) waits
+  sent = grind (arith, common_steps, there, map, waits)
 
   pub first_is : slice_index page.next me ≡ v.core.queue.first
   first_is =
       let knows = (h.promised.by.knows page at_home).next me below in
       let numbers = (h.promised.by.remembers me v there).numbers in
-      let size = ap length sent in
-      let parts = length-append (map (λ (i : Item). i.message) (of_sender me h.promised.order))
-      v.core.queue.messages in
-      let items = length-map (of_sender me h.promised.order) (λ (i : Item). i.message) in
-      omega arith
+      grind (arith, common_steps, length, sent, length-append, map, length-map)
 
   pub were_answered : WereAnswered sender_trail.actions v.core.queue.first v.core.queue.messages
   were_answered k bytes at =
@@ -193,15 +180,7 @@ module _ {E : Type 0} (X : Election E) (x : Layout) (reuse : Option ℕ) (bases 
       ∙ got_after front v.core.queue.messages k bytes at (length front + k) refl in
       let w = was_put (T.actions me) (length front + k) bytes found in
       let number = h.promised.by.promises.numbered me w.place w.number bytes w.at in
-      let knows = (h.promised.by.knows page at_home).next me below in
-      let first = first_is in
-      let items = length-map (of_sender me h.promised.order) (λ (i : Item). i.message) in
-      let before = w.before in (
-        w.place,
-        ap (λ l. slice_get l w.place) (sym trail_is) ∙ w.at
-            ∙ ap (λ n. Some (HasPut n bytes))
-            (let is : w.number ≡ v.core.queue.first + k = omega arith in is),
-      )
+      grind (arith, common_steps, at_home, below, first_is, length-map, slice_get, trail_is)
 
   module _ (K : ProcessLaws (process_of X)) where
     abbrev P : Process (Sender E)
@@ -233,7 +212,4 @@ module _ {E : Type 0} (X : Election E) (x : Layout) (reuse : Option ℕ) (bases 
 -- the next number of a sender at its start is its first
 pub next_new : {E : Type 0} (X : Election E) (x : Layout) (p : ℕ) (reuse : Option ℕ) (first : ℕ)
     → next_of ((process_of X).queue (new_sender x p reuse first)) ≡ first
-next_new {E} X x p reuse first =
-    let q = (new_sender {E = E} x p reuse first).core.queue in
-    let same = queue_same next_of (λ q. refl) q (new_reuse reuse) in
-    same ∙ (let n : next_of q ≡ first = omega arith in n)
+next_new {E} X x p reuse first = grind (arith, common_steps, queue_same)

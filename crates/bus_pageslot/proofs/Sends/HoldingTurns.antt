@@ -1,52 +1,45 @@
 -- A holder's turn takes one of the turns that are left of its tenure, also where it makes the next
 -- row ready; and by the table, so does any turn of a tenure that is begun.
-use Rattle.std.proofs.Common.{◌≡◌, ℕ, ◌+◌, ◌-◌, ◌<◌, ◌≤◌, ◌⊎◌, ◌/◌, inl, inr, Bool, true, false}
-use Rattle.std.proofs.Common.{cond, Option, Some, None, IsSome, IsSomeAnd, nat_lt, ◌==◌, arith}
-use Rattle.std.proofs.Common.{refl, sym, ◌∙◌, ap, subst, is_some, ◌&&◌}
+use Rattle.std.proofs.Common.{◌≡◌, ℕ, ◌+◌, ◌-◌, ◌<◌, ◌≤◌, ◌⊎◌, inl, inr, Bool, true, false, cond}
+use Rattle.std.proofs.Common.{Option, Some, None, IsSome, IsSomeAnd, nat_lt, ◌==◌, arith, refl}
+use Rattle.std.proofs.Common.{sym, ◌∙◌, ap, subst, is_some}
 use Rattle.std.proofs.lemmas.Bool.{true≢false, ltb-true, lt-ltb, le-ltb}
+use Rattle.std.proofs.lemmas.Grind.{common_steps}
 use Rattle.bus_register.specs.declared.kinds.Kind.TheVariants as kind
 use Rattle.bus_batch.specs.Batches.{Pending}
-use Rattle.bus_batch.specs.declared.batches.Phase.{Phase as BatchPhase}
-use Rattle.bus_batch.specs.declared.batches.Phase.TheVariants.{Open, Marking, Closed}
-use Rattle.bus_batch.specs.declared.messages.Mark.TheVariants as mark
 use Rattle.bus_presence.specs.Reclaimers.{Reclaiming, IsClearing, reclaim_fed, behind_of}
-use Rattle.bus_tenure.specs.Core.{Core, Election, frame_len, has_room}
+use Rattle.bus_tenure.specs.Core.{Core, Election}
 use Rattle.bus_tenure.specs.Seen.{HasElection, turns_of, tenure_of, is_holding}
 use Rattle.bus_tenure.specs.Situations.{Situation as Own, IsClosed, IsIdle, IsSpent, LooksAtStage}
 use Rattle.bus_tenure.specs.Situations.{Elects, TakesPage, AwaitsPage, StoresWord, StoresLength}
-use Rattle.bus_tenure.specs.Situations.{GivesBack, HasHanded, situation_of, situation_at}
-use Rattle.bus_tenure.specs.Situations.{core_at_rest, answer_sent, answer_of_return, Comes}
-use Rattle.bus_tenure.specs.Situations.{core_floored, phase_floored, lesser}
+use Rattle.bus_tenure.specs.Situations.{GivesBack, HasHanded, situation_of, core_at_rest}
+use Rattle.bus_tenure.specs.Situations.{answer_of_return, Comes, core_floored}
 use Rattle.bus_tenure.specs.declared.pages.Page.{Page}
-use Rattle.bus_tenure.specs.declared.phases.Phase.{Phase}
-use Rattle.bus_tenure.specs.declared.phases.Phase.TheVariants.{Resting, Electing, Taken, Holding}
-use Rattle.bus_tenure.specs.declared.phases.Phase.TheVariants.{Giving}
+use Rattle.bus_tenure.specs.declared.phases.Phase.TheVariants.{Resting, Electing, Holding}
 use Rattle.bus_tenure.specs.declared.phases.Reason.{Reason}
 use Rattle.bus_tenure.specs.declared.phases.Reason.TheVariants.{Sent, FoundEnd, NoRoom}
 use Rattle.bus_tenure.specs.declared.turns.Turn.{Turn}
 use Rattle.bus_tenure.specs.declared.turns.Turn.TheVariants as turn
 use Rattle.bus_tenure.proofs.Situated.{tells}
 use Rattle.bus_core.specs.Keeping.{IsAway, sender}
-use Rattle.bus_core.specs.Reusing.Turns.{answer_of_reclaim, tenure_begun_by}
+use Rattle.bus_core.specs.Reusing.Turns.{answer_of_reclaim}
 use Rattle.bus_core.specs.Seen.{tenure_begun}
 use Rattle.bus_core.specs.Senders.{Sender, Situation, Does, Announces, Validates, Unpins, Withdraws}
 use Rattle.bus_core.specs.Senders.{Scans, Clears, ReadsPassed, situation, participant_of}
-use Rattle.bus_core.specs.Table.{line, line_now, reuse_taken, reuse_given, reuse_passed}
-use Rattle.bus_core.specs.Table.{reuse_reclaiming}
+use Rattle.bus_core.specs.Table.{line, line_now, reuse_given, reuse_passed, reuse_reclaiming}
 use Rattle.bus_core.specs.Telling.{FeedTells, HasBegunNone}
 use Rattle.bus_core.specs.declared.reuses.Reuse.{Reuse}
 use Rattle.bus_core.proofs.Situated.{IsCalm, Passes, Reclaims, situation_tells, own_is}
 use Rattle.bus_core.specs.Reusing.Passing.{core_passed, passing_fed}
 use Rattle.bus_core.specs.declared.reuses.Passing.{Passing}
 use Rattle.bus_machine.specs.Machine.{moved}
-use Rattle.bus_world.specs.Turning.{core_with_page, after_step}
+use Rattle.bus_world.specs.Turning.{after_step}
 use Rattle.bus_register.specs.declared.registers.Op.{Op}
 use Rattle.bus_core.specs.Causes.{LeavesTenure}
 use Rattle.bus_core.specs.Places.{LiesAt, StandsIn}
 use Rattle.bus_register.specs.Words.{register}
-use Rattle.bus_register.specs.declared.limits.TheConstants.{NUMBERS}
-use Rattle.bus_pageslot.specs.Finishing.{turns_to_return, turns_to_clear, turns_in, turns_of_pin}
-use Rattle.bus_pageslot.specs.Finishing.{turns_to_finish, ends_tenure, StaysOrEnds}
+use Rattle.bus_pageslot.specs.Finishing.{turns_to_return, turns_in, turns_to_finish, ends_tenure}
+use Rattle.bus_pageslot.specs.Finishing.{StaysOrEnds}
 use Rattle.bus_pageslot.proofs.Sends.TurnsLeft as turns
 use Rattle.bus_pageslot.proofs.Sends.TurnsLeft.{none_begun, stands, announces, validates, unpins}
 use Rattle.bus_pageslot.proofs.Sends.TurnsLeft.{withdraws, elects, takes}
@@ -68,28 +61,8 @@ module _ {E : Type 0} (X : Election E) where
           → turns_to_return c more published < turns_to_return c stored false
           → IsTurn (sender c r) turn.Going
           (sender (record c { phase = Holding t page more published }) r)
-      stores None more published away less =
-          let e = ap (turns_in X c None) at in
-          falls_some (sender c None)
-          (sender (record c { phase = Holding t page more published }) None)
-          turn.Going (omega arith)
-          (inl record {
-            same = (sym (ap tenure_of at));
-            begun = refl;
-            goes = refl;
-            holds = λ b. refl;
-          })
-      stores (Some r) more published away less =
-          let e = ap (turns_in X c (Some r)) at in
-          let d = record c { phase = Holding t page more published } in
-          falls_some (sender c (Some r)) (sender d (Some r)) turn.Going (omega arith)
-          (inl record {
-            same = (ap (tenure_begun_by d) away
-                ∙ sym (ap (tenure_begun_by c) away ∙ ap tenure_of at));
-            begun = stands d (Some r) refl;
-            goes = refl;
-            holds = λ b. refl;
-          })
+      stores None more published away less = grind (arith, common_steps, falls_some)
+      stores (Some r) more published away less = grind (arith, common_steps, falls_some, stands)
 
   -- what is due of a holder that stores, and how much less is left then
   abbrev LessLeft : Core E → Own E → Type 0
@@ -102,48 +75,12 @@ module _ {E : Type 0} (X : Election E) where
   LessLeft c z = Unit {0}
 
   less_left : (c : Core E) (z : Own E) → situation_of X c ≡ z → LessLeft c z
-  less_left c z i = subst (LessLeft c) i (by c.phase refl) where
-    held : (t : ℕ) (page : Page) (stored : ℕ) (published ended room more : Bool)
-        → c.phase ≡ Holding t page stored published → nat_lt stored (frame_len c) ≡ more
-        → LessLeft c (cond published (GivesBack t page Sent) (cond ended (GivesBack t page FoundEnd)
-        (cond room (cond more (StoresWord t page stored) (StoresLength t page stored))
-        (GivesBack t page NoRoom))))
-    held t page stored true ended room more e m = tt
-    held t page stored false true room more e m = tt
-    held t page stored false false false more e m = tt
-    held t page stored false false true true e m =
-        let within : stored < frame_len c = ltb-true _ _ m in (e, omega arith)
-    held t page stored false false true false e m = (e, omega arith)
-
-    rested : (a b d : Bool)
-        → LessLeft c (cond a IsClosed (cond b IsIdle (cond d IsSpent LooksAtStage)))
-    rested true b d = tt
-    rested false true d = tt
-    rested false false true = tt
-    rested false false false = tt
-
-    elected : (a : Bool) (t : ℕ) (e : E) → LessLeft c (cond a (TakesPage t) (Elects t e))
-    elected true t e = tt
-    elected false t e = tt
-
-    by : (ph : Phase E) → c.phase ≡ ph → LessLeft c (situation_at X c ph)
-    by Resting e = rested _ _ _
-    by (Electing t f) e = elected (is_some (X.owner f)) t f
-    by (Taken t) e = tt
-    by (Holding t page stored published) e =
-        held t page stored published page.ended (has_room c page) (nat_lt stored (frame_len c)) e
-        refl
-    by (Giving t reason) e = tt
+  less_left c z i = grind (arith, common_steps, nat_lt, ltb-true, is_some)
 
   -- the page is given back
   answer_ends : (q : Pending) (t : ℕ) (reason : Reason)
       → ends_tenure (answer_of_return q t reason) ≡ true
-  answer_ends q t Sent = by q.phase where
-    by : (ph : BatchPhase) → ends_tenure (answer_sent q t ph) ≡ true
-    by Open = refl
-    by (Marking mark.End) = refl
-    by (Marking mark.Leave) = refl
-    by Closed = refl
+  answer_ends q t Sent = grind (arith, common_steps)
   answer_ends q t FoundEnd = refl
   answer_ends q t NoRoom = refl
 
@@ -151,19 +88,8 @@ module _ {E : Type 0} (X : Election E) where
       → 1 ≤ turns_in X c r c.phase
       → IsTurn (sender c r) (answer_of_return c.queue t reason)
       (sender (core_at_rest c reason t) (reuse_given r))
-  returns c t reason None away held =
-      falls_some (sender c None) (sender (core_at_rest c reason t) None)
-      (answer_of_return c.queue t reason) (omega arith)
-      (inr record { none = refl; ends = answer_ends c.queue t reason })
-  returns c t reason (Some r) away held =
-      let d = core_at_rest c reason t in
-      let e : turns_of_pin X d r.pin ≡ 0 = ap (turns_of_pin X d) away in
-      falls_some (sender c (Some r)) (sender d (Some record r { reclaimer = None }))
-      (answer_of_return c.queue t reason) (omega arith)
-      (inr record {
-        none = ap (tenure_begun_by d) away;
-        ends = answer_ends c.queue t reason;
-      })
+  returns c t reason None away held = grind (arith, common_steps, falls_some, answer_ends)
+  returns c t reason (Some r) away held = grind (arith, common_steps, falls_some, answer_ends)
 
   -- ---- the next row
   -- one presence less, but where another sender is in the way
@@ -174,73 +100,16 @@ module _ {E : Type 0} (X : Election E) where
       → IsTurn (sender c (Some r)) (answer_of_reclaim (behind_of s got))
       (sender c (Some record r { reclaimer = Some (reclaim_fed s got) }))
   scanned c r s got left true is l b some holds held =
-      let a : answer_of_reclaim (behind_of s got)
-      ≡ turn.Behind s.past record { 0 = s.scanned } =
-      ap (λ x. answer_of_reclaim (cond (x && (got == 1 + s.past))
-      (Some record { tenure = s.past; sender = s.scanned }) None)) l
-      ∙ ap (λ x. answer_of_reclaim (cond x
-      (Some record { tenure = s.past; sender = s.scanned }) None)) b in
-      subst (λ y. IsTurn (sender c (Some r)) y
-      (sender c (Some record r { reclaimer = Some (reclaim_fed s got) }))) (sym a)
-      (record {
-        falls = λ other. absurd (true≢false other);
-        some = omega arith;
-        outcome = inl record {
-          same = refl;
-          begun = stands c (Some record r { reclaimer = Some (reclaim_fed s got) }) some;
-          goes = refl;
-          holds = λ y. holds;
-        };
-      })
+      grind (arith, common_steps, true≢false, stands)
   scanned c r s got left false is l b some holds held =
-      let a : answer_of_reclaim (behind_of s got) ≡ turn.Going =
-      ap (λ x. answer_of_reclaim (cond (x && (got == 1 + s.past))
-      (Some record { tenure = s.past; sender = s.scanned }) None)) l
-      ∙ ap (λ x. answer_of_reclaim (cond x
-      (Some record { tenure = s.past; sender = s.scanned }) None)) b in
-      let f : reclaim_fed s got ≡ record s { scanned = s.scanned + 1 } =
-      ap (λ x. cond x (cond (got == 1 + s.past) s (record s { scanned = s.scanned + 1 }))
-      (cond (nat_lt s.cleared s.width) (record s { cleared = s.cleared + 1 }) s)) l
-      ∙ ap (λ x. cond x s (record s { scanned = s.scanned + 1 })) b in
-      let before : turns_to_clear r.reclaimer ≡ turns_to_clear (Some s) = ap turns_to_clear is in
-      let below : s.scanned < s.senders = ltb-true _ _ l in
-      let new = Some record r { reclaimer = Some record s { scanned = s.scanned + 1 } } in
-      subst (λ (y : Turn × Reclaiming). IsTurn (sender c (Some r)) y.0
-      (sender c (Some record r { reclaimer = Some y.1 }))) (λ i. (sym a i, sym f i))
-      (falls_some (sender c (Some r)) (sender c new) turn.Going (omega arith)
-      (inl record {
-        same = refl;
-        begun = stands c new some;
-        goes = refl;
-        holds = λ y. holds;
-      }))
+      grind (arith, common_steps, nat_lt, ltb-true, falls_some, stands)
 
   clears : (c : Core E) (r : Reuse) (s : Reclaiming) (got : ℕ) → r.reclaimer ≡ Some s → IsClearing s
       → IsSome (tenure_of c.phase) → is_holding c.phase ≡ true
       → IsTurn (sender c (Some r)) (answer_of_reclaim (behind_of s got))
       (sender c (Some record r { reclaimer = Some (reclaim_fed s got) }))
   clears c r s got is h some holds =
-      let l : nat_lt s.scanned s.senders ≡ false = le-ltb _ _ h.passed in
-      let m : nat_lt s.cleared s.width ≡ true = lt-ltb _ _ h.left in
-      let a : answer_of_reclaim (behind_of s got) ≡ turn.Going =
-      ap (λ x. answer_of_reclaim (cond (x && (got == 1 + s.past))
-      (Some record { tenure = s.past; sender = s.scanned }) None)) l in
-      let f : reclaim_fed s got ≡ record s { cleared = s.cleared + 1 } =
-      ap (λ x. cond x (cond (got == 1 + s.past) s (record s { scanned = s.scanned + 1 }))
-      (cond (nat_lt s.cleared s.width) (record s { cleared = s.cleared + 1 }) s)) l
-      ∙ ap (λ x. cond x (record s { cleared = s.cleared + 1 }) s) m in
-      let before : turns_to_clear r.reclaimer ≡ turns_to_clear (Some s) = ap turns_to_clear is in
-      let below = h.left in
-      let new = Some record r { reclaimer = Some record s { cleared = s.cleared + 1 } } in
-      subst (λ (y : Turn × Reclaiming). IsTurn (sender c (Some r)) y.0
-      (sender c (Some record r { reclaimer = Some y.1 }))) (λ i. (sym a i, sym f i))
-      (falls_some (sender c (Some r)) (sender c new) turn.Going (omega arith)
-      (inl record {
-        same = refl;
-        begun = stands c new some;
-        goes = refl;
-        holds = λ y. holds;
-      }))
+      grind (arith, common_steps, nat_lt, le-ltb, lt-ltb, falls_some, stands)
 
   -- a passed place is loaded, and is the last or not
   passes_at : (c : Core E) (r : Reuse) (t : ℕ) (page : Page) (stored : ℕ) (published : Bool)
@@ -249,51 +118,16 @@ module _ {E : Type 0} (X : Election E) where
       → IsTurn (sender c (Some r)) turn.Going
       (sender (cond last (core_floored c q.least) c) (Some record r { passed = q }))
   passes_at c r t page stored published q false at calm less next =
-      let e = ap (turns_in X c (Some r)) at in
-      let new = Some record r { passed = q } in
-      let now = ap (turns_in X c new) at in
-      falls_some (sender c (Some r)) (sender c new) turn.Going (omega arith)
-      (inl record {
-        same = refl;
-        begun = stands c new (ap (λ p. is_some (tenure_of p)) at);
-        goes = refl;
-        holds = λ y. absurd cc;
-      })
+      grind (arith, common_steps, falls_some, stands, is_some)
   passes_at c r t page stored published q true at calm less next =
-      let d = core_floored c q.least in
-      let floored : d.phase
-      ≡ Holding t (record page { floor = lesser (lesser q.least page.words) NUMBERS }) stored
-      published = ap (phase_floored q.least) at in
-      let e = ap (turns_in X c (Some r)) at in
-      let new = Some record r { passed = q } in
-      let now = ap (turns_in X d new) floored in
-      let back : turns_to_return d stored published ≡ turns_to_return c stored published = refl in
-      let pin : turns_of_pin X d r.pin ≡ turns_of_pin X c r.pin = refl in
-      falls_some (sender c (Some r)) (sender d new) turn.Going (omega arith)
-      (inl record {
-        same = elim calm [
-          | inl away ↦
-              ap (tenure_begun_by d) away ∙ ap tenure_of floored ∙ sym (ap tenure_of at)
-              ∙ sym (ap (tenure_begun_by c) away)
-          | inr pinned ↦
-              ap (tenure_begun_by d) pinned.1 ∙ sym (ap (tenure_begun_by c) pinned.1)
-        ];
-        begun = stands d new (ap (λ p. is_some (tenure_of p)) floored);
-        goes = refl;
-        holds = λ y. absurd cc;
-      })
+      grind (arith, common_steps, falls_some, stands, is_some)
 
   passes : (c : Core E) (r : Option Reuse) (t : ℕ) (p : Passing) (got : ℕ)
       → IsSomeAnd r (λ y. Passes c.layout.passers y (situation_of X c) t p)
       → IsTurn (sender c r) turn.Going
       (sender (core_passed c (passing_fed p got)) (reuse_passed r (passing_fed p got)))
   passes c None t p got h = absurd h
-  passes c (Some r) t p got h =
-      let held = tells X c (GivesBack t h.page NoRoom) h.gives in
-      let loaded = ap (λ (z : Passing). z.loaded) h.is in
-      let left = h.left in
-      passes_at c r t h.page held.0 held.1 (passing_fed p got)
-      ((passing_fed p got).loaded == c.layout.passers) held.2 h.calm (omega arith) (omega arith)
+  passes c (Some r) t p got h = grind (arith, common_steps, tells, passes_at)
 
   -- what a holder has left
   held_left : (c : Core E) (r : Option Reuse) (t : ℕ) (page : Page) (stored : ℕ) (published : Bool)
@@ -307,16 +141,7 @@ module _ {E : Type 0} (X : Election E) where
       → IsTurn (sender c (Some r)) (answer_of_reclaim (behind_of s got))
       (sender c (Some record r { reclaimer = Some (reclaim_fed s got) }))
   reclaims c r s got h due =
-      let held = tells X c (GivesBack h.tenure h.page h.reason) h.gives in
-      let some : IsSome (tenure_of c.phase) = ap (λ p. is_some (tenure_of p)) held.2 in
-      let holds : is_holding c.phase ≡ true = ap is_holding held.2 in
-      let left : 1 ≤ turns_in X c (Some r) c.phase =
-      held_left c (Some r) h.tenure h.page held.0 held.1 held.2 in
-      elim due [
-        | inl more ↦ scanned c r s got true (got == 1 + s.past) h.is (lt-ltb _ _ more) refl some
-            holds left
-        | inr clearing ↦ clears c r s got h.is clearing some holds
-      ]
+      grind (arith, common_steps, tells, is_some, held_left, scanned, lt-ltb, clears)
 
   reclaims_by : (c : Core E) (r : Option Reuse) (s : Reclaiming) (got : ℕ)
       → IsSomeAnd r (λ y. Reclaims y (situation_of X c) s
@@ -363,10 +188,7 @@ module _ {E : Type 0} (X : Election E) where
         → IsTurn v ((line X v z).answer got word) (After z)
 
     runs : (t : ℕ) (e : E) → v.core.phase ≡ Electing t e → 1 ≤ X.turns_left e
-    runs t e at =
-        let left = running (record { tenure = t; election = e; is = at }) in
-        let same = ap (turns_of X) at in
-        omega arith
+    runs t e at = grind (arith, common_steps)
 
     away : (z : Situation E) → situation X v ≡ z → (line X v z).kind ≡ Some kind.GivePageBack
         → IsAway v.reuse
@@ -388,52 +210,26 @@ module _ {E : Type 0} (X : Election E) where
     at (Does IsIdle) i due taken told = absurd (true≢false (sym due))
     at (Does IsSpent) i due taken told = absurd (true≢false (sym due))
     at (Does (AwaitsPage t)) i due taken told = absurd (true≢false (sym due))
-    at (Does LooksAtStage) i due taken told =
-        let none = none_begun v (looks (ap (λ y. (line X v y).kind) i)) in
-        absurd (true≢false (sym begun ∙ ap is_some none))
+    at (Does LooksAtStage) i due taken told = grind (arith, none_begun, true≢false, is_some)
     at (Does (Elects t e)) i due taken told =
         let own = tells X v.core (Elects t e) (own_is X v (Elects t e) i) in
         elects X v.core t e (X.fed e got word) own.0 (runs t e own.0) (fall e) v.reuse
         (X.owner (X.fed e got word)) (elects_inside t e i _ refl due)
     at (Does (TakesPage t)) i due taken told =
-        let own = tells X v.core (TakesPage t) (own_is X v (TakesPage t) i) in
-        let page = taken t refl in
-        subst (λ h. IsTurn v (turn.Own t)
-        (sender (core_with_page (record v.core { phase = Taken t }) t h)
-        (reuse_taken v.core.layout v.reuse t))) (sym page.1)
-        (takes X v.core t own.0 (X.fed own.0 got word) own.1 (runs t own.0 own.1) (fall own.0)
-        v.reuse page.0 (lies (Does (TakesPage t)) i _ refl).1)
+        grind (arith, common_steps, tells, own_is, takes, runs, lies)
     at (Does (StoresWord t page stored)) i due taken told =
-        let less = less_left v.core (StoresWord t page stored)
-        (own_is X v (StoresWord t page stored) i) in
-        stores v.core t page stored less.0 v.reuse (stored + 1) false
-        (stores_away (ap (λ y. (line X v y).kind) i)) less.1
+        grind (arith, common_steps, less_left, own_is, stores)
     at (Does (StoresLength t page stored)) i due taken told =
-        let less = less_left v.core (StoresLength t page stored)
-        (own_is X v (StoresLength t page stored) i) in
-        stores v.core t page stored less.0 v.reuse stored true
-        (ends_away (ap (λ y. (line X v y).kind) i)) less.1
+        grind (arith, common_steps, less_left, own_is, stores)
     at (Does (GivesBack t page reason)) i due taken told =
-        let own = tells X v.core (GivesBack t page reason)
-        (own_is X v (GivesBack t page reason) i) in
-        returns v.core t reason v.reuse (away (Does (GivesBack t page reason)) i refl)
-        (held_left v.core v.reuse t page own.0 own.1 own.2)
+        grind (arith, common_steps, tells, own_is, returns, away, held_left)
     at (Does (HasHanded t reason)) i due taken told =
-        let own = tells X v.core (HasHanded t reason) (own_is X v (HasHanded t reason) i) in
-        let is : turns_in X v.core v.reuse v.core.phase ≡ 1 = ap (turns_in X v.core v.reuse) own in
-        returns v.core t reason v.reuse (away (Does (HasHanded t reason)) i refl) (omega arith)
+        grind (arith, common_steps, tells, own_is, returns, away)
     at (Announces t) i due taken told =
         announces X v.core v.reuse t (situation_tells X v (Announces t) i)
-    at (Validates t) i due taken told =
-        validates X (got / 2 == t) v.core v.reuse t (situation_tells X v (Validates t) i)
-        (again (ap (λ y. (line X v y).kind) i))
-    at (Unpins t) i due taken told =
-        unpins X v.core v.reuse t (situation_tells X v (Unpins t) i)
-        (λ going. (subst (FeedTells X v got word) going told).holds t
-        (situation_tells X v (Unpins t) i)) (leaves (ap (λ y. (line X v y).kind) i))
-    at (Withdraws t) i due taken told =
-        withdraws X v.core v.reuse t (situation_tells X v (Withdraws t) i)
-        (leaves (ap (λ y. (line X v y).kind) i))
+    at (Validates t) i due taken told = grind (arith, common_steps, validates, situation_tells)
+    at (Unpins t) i due taken told = grind (arith, common_steps, unpins, situation_tells)
+    at (Withdraws t) i due taken told = grind (arith, common_steps, withdraws, situation_tells)
     at (Scans s) i due taken told =
         reclaims_by v.core v.reuse s got
         (asks_by (situation_of X v.core) v.reuse s (situation_tells X v (Scans s) i))

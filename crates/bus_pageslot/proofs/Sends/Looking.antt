@@ -7,14 +7,12 @@ use Rattle.std.specs.Prelude.{IsTrue, ◌↔◌, get_or}
 use Rattle.std.proofs.lemmas.Bool.{cases_eq, eq-eqb, ne_eqb, true≢false}
 use Rattle.std.proofs.lemmas.List.{append-nil, append_cancel_left, get_or_append_left}
 use Rattle.std.proofs.lemmas.List.{get_or_push, length-append}
+use Rattle.std.proofs.lemmas.Grind.{common_steps}
 use Rattle.atomic_table.specs.Seated.{TableId}
 use Rattle.atomic_table.specs.declared.shared.Seat.{Seat}
 use Rattle.bus_adoptcommit.specs.declared.verdicts.Verdict.{Verdict}
 use Rattle.bus_batch.specs.Batches.{Pending, frame_of}
 use Rattle.bus_batch.specs.Frames.{frame_words}
-use Rattle.bus_batch.specs.declared.batches.Phase.{Phase}
-use Rattle.bus_batch.specs.declared.batches.Phase.TheVariants as phase
-use Rattle.bus_batch.specs.declared.messages.Mark.TheVariants as mark
 use Rattle.bus_core.specs.Senders.{Sender}
 use Rattle.bus_core.specs.declared.limits.TheConstants.{PASSED_APART}
 use Rattle.bus_register.specs.Protocol.{Protocol}
@@ -55,20 +53,14 @@ one_more words at r len =
     ap (λ n. least_passed words at n len) (let e : suc r ≡ r + 1 = omega arith in e)
 
 pub lesser_low : (a b : ℕ) → lesser a b ≤ b
-lesser_low a b = elim (lesser_is a b) [
-  | inl h ↦ (let is = h.0 in let less = h.1 in omega arith)
-  | inr h ↦ (let is = h.0 in omega arith)
-]
+lesser_low a b = grind (arith, common_steps, lesser_is)
 
 -- it is not past the length
 pub least_low : (words : ℕ → ℕ) (at n len : ℕ) → least_passed words at n len ≤ len
 least_low words at zero len = omega arith
 least_low words at (suc k) len =
     let more = least_low words at k len in
-    elim (lesser_is (words (at + PASSED_APART * k)) (least_passed words at k len)) [
-      | inl a ↦ (let is = a.0 in let less = a.1 in omega arith)
-      | inr a ↦ (let is = a.0 in omega arith)
-    ]
+    grind (arith, common_steps, lesser_is)
 
 -- words that agree so far show the same
 same_least : (words more : ℕ → ℕ) (at n len : ℕ)
@@ -104,9 +96,7 @@ at_passed x found zero r d below = absurd (omega arith)
 at_passed x found (suc k) r d below =
     let size = length_looks x found k in
     elim (cases_eq r k) [
-      | inl last ↦
-          get_or_push (passed_looks x found k) (look_at found (passed_word x k)) d r
-          (size ∙ sym last) ∙ ap (λ q. look_at found (passed_word x q)) (sym last)
+      | inl last ↦ grind (arith, common_steps, get_or_push)
       | inr before ↦
           let less : r < k = omega arith in
           get_or_append_left (passed_looks x found k) (look_at found (passed_word x k) ∷ []) d r
@@ -132,10 +122,7 @@ module _ {C : Type 0} (P : Process C) (A : Automaton C) where
   looks_more : (looks : List Look) (old mid new : View C) (look : Look) → LooksOn P A old looks mid
       → IsFoundOn P A mid look.word look.found → new ≡ with_look mid look
       → LooksOn P A old (looks ++ look ∷ []) new
-  looks_more [] old mid new look is found now = (
-    subst (λ v. IsFoundOn P A v look.word look.found) is found,
-    now ∙ ap (λ v. with_look v look) is,
-  )
+  looks_more [] old mid new look is found now = grind (arith, common_steps)
   looks_more (first ∷ more) old mid new look h found now =
       (h.0, looks_more more (with_look old first) mid new look h.1 found now)
 
@@ -202,14 +189,8 @@ module _ {C : Type 0} (P : Process C) (A : Automaton C) where
       record {
         found = found;
         first = sym (other 0 (λ e. absurd (omega arith))) ∙ f.first;
-        least_is =
-            ap (lesser got) f.least_is
-            ∙ ap (lesser got) (same_least f.found found x.passed n len apart)
-            ∙ ap (λ w. lesser w (least_passed found x.passed n len)) mine
-            ∙ one_more found x.passed n len;
-        looks = subst (λ l. LooksOn P A old l new) (all ∙ ap (passed_looks x found) next)
-            (looks_more (passed_looks x f.found n) old mid new
-            (record { word = here; found = got }) f.looks so now);
+        least_is = grind (arith, common_steps, same_least, one_more);
+        looks = grind (arith, common_steps, looks_more);
       }
 
   -- ---- the floor that was seen
@@ -226,43 +207,18 @@ module _ {C : Type 0} (P : Process C) (A : Automaton C) where
   -- and where some were found
   pub seen_some : (old new : View C) (n len least : ℕ) → n ≢ 0 → n ≡ x.passers
       → Found old n len least new → FloorSeen P A old len least new
-  seen_some old new n len least some many f = record {
-    found = f.found;
-    first = f.first;
-    looked = subst (λ k. LooksOn P A old (passed_looks x f.found k) new) many f.looks;
-    floor_is =
-        f.least_is ∙ floor_some f.found x.passed n len some
-        ∙ ap (λ k. floor_shown f.found x.passed k len) many;
-  }
+  seen_some old new n len least some many f = grind (arith, common_steps, floor_some)
 
 -- ---- the frame of a batch
 -- it is a mark and its head, where a mark waits
 pub frame_marked : (q : Pending) → (is_closing q.phase ≡ true) ⊎ (is_leaving q.phase ≡ true)
     → 2 ≡ length (frame_words (frame_of q 0))
-frame_marked q some = by q.phase some where
-  by : (ph : Phase) → (is_closing ph ≡ true) ⊎ (is_leaving ph ≡ true)
-      → 2 ≡ length (frame_words (frame_of (record q { phase = ph }) 0))
-  by phase.Open (inl e) = absurd (true≢false (sym e))
-  by phase.Open (inr e) = absurd (true≢false (sym e))
-  by (phase.Marking m) some = refl
-  by phase.Closed (inl e) = absurd (true≢false (sym e))
-  by phase.Closed (inr e) = absurd (true≢false (sym e))
+frame_marked q some = grind (arith, common_steps, length, true≢false)
 
 -- and a head alone, where nothing waits
 pub frame_bare : (q : Pending) → is_closing q.phase ≡ false → is_leaving q.phase ≡ false
     → length q.messages ≡ 0 → 1 ≡ length (frame_words (frame_of q 0))
-frame_bare q closing leaving none = by q.phase closing leaving q.messages none where
-  by : (ph : Phase) → is_closing ph ≡ false → is_leaving ph ≡ false → (m : List (List ℕ))
-      → length m ≡ 0 → 1 ≡ length (frame_words (frame_of (record q {
-        phase = ph;
-        messages = m;
-      }) 0))
-  by phase.Open c l [] none = refl
-  by phase.Open c l (x ∷ m) none = absurd (omega arith)
-  by (phase.Marking mark.End) c l m none = absurd (true≢false c)
-  by (phase.Marking mark.Leave) c l m none = absurd (true≢false l)
-  by phase.Closed c l [] none = refl
-  by phase.Closed c l (x ∷ m) none = absurd (omega arith)
+frame_bare q closing leaving none = grind (arith, common_steps, length, true≢false)
 
 -- whether its contents are on their way or not
 pub batch_is : {S : Type 0} (kind_of : S → Option Kind) (op : S → ℕ → Option Op)
@@ -280,22 +236,7 @@ pub looked : {C : Type 0} (P : Process C) (A : Automaton C) (old mid new : View 
     → mid ≡ with_look old (record { word = length_at; found = len })
     → FloorSeen P A mid len floor new → capacity ≡ A.table_layout.capacity
     → (IsTrue fits ↔ (len + many ≤ capacity + floor)) → HasLooked P A old many fits new
-looked P A old mid new many len floor capacity fits long now f same says =
-    let x = A.table_layout in
-    let at : floor ≡ floor_shown f.found x.passed x.passers (f.found length_at) =
-    f.floor_is ∙ ap (floor_shown f.found x.passed x.passers) (sym f.first) in
-    let first : f.found length_at ≡ len = f.first in
-    record {
-      found = f.found;
-      looked = (
-        subst (IsFoundOn P A old length_at) (sym first) long,
-        subst (λ v. LooksOn P A v (passed_looks x f.found x.passers) new)
-            (now
-            ∙ ap (λ k. with_look old (record { word = length_at; found = k })) (sym first))
-            f.looked,
-      );
-      says = ((λ yes. let a = says.0 yes in omega arith), (λ fit. says.1 (omega arith)));
-    }
+looked P A old mid new many len floor capacity fits long now f same says = grind arith
 
 -- one that is longer than the log does not
 pub shown_low : (words : ℕ → ℕ) (at n len : ℕ) → floor_shown words at n len ≤ len
@@ -306,10 +247,7 @@ pub never_fits : {C : Type 0} (P : Process C) (A : Automaton C) (old new : View 
     (fits : Bool) → HasLooked P A old many fits new → A.table_layout.capacity < many
     → fits ≡ false
 never_fits P A old new many false h long = refl
-never_fits P A old new many true h long =
-    let x = A.table_layout in
-    let fit = h.says.0 refl in
-    let low = shown_low h.found x.passed x.passers (h.found length_at) in absurd (omega arith)
+never_fits P A old new many true h long = grind (arith, common_steps, shown_low)
 
 -- a length that a seat has stored is no longer than one that was found then
 pub stored_reached : {C : Type 0} (P : Process C) (A : Automaton C) (c : C) (trail : SenderTrail)
@@ -332,9 +270,7 @@ module _ {C : Type 0} (P : Process C) (A : Automaton C) (c : C) (trail : SenderT
   -- these looks are all
   all_looks : (more : List Look) (fits : Bool) (h : HasLooked P A old many fits (shows more))
       → room_looks A.table_layout h.found ≡ more
-  all_looks more fits h = append_cancel_left notes.looks (room_looks A.table_layout h.found) more
-      (sym (ap (λ (v : View C). looks_in v)
-      (looks_end P A c trail notes (room_looks A.table_layout h.found) (shows more) h.looked)))
+  all_looks more fits h = grind (arith, common_steps, append_cancel_left, looks_end)
 
   pub looking_refuses : LookingRefuses P A c trail notes many
   looking_refuses = record {
@@ -368,13 +304,7 @@ module _ {C : Type 0} (P : Process C) (A : Automaton C) where
   pub looks_shown : (d : C) (s : Seat (Option Page) (View C)) (new : View C) (many : ℕ)
       (fits : Bool) → Shows P d s → (looked : HasLooked P A s.me.0 many fits new)
       → looks_in new ≡ looks_in s.me.0 ++ room_looks A.table_layout looked.found
-  looks_shown d s new many fits h looked =
-      let looks = room_looks A.table_layout looked.found in
-      let view : s.me.0 ≡ Seated h.shown (sender_trail_in s.me.0) (notes_in s.me.0) =
-      ap (λ (m : Sat C). m.0) h.me in
-      ap (λ (v : View C). looks_in v)
-      (looks_end P A h.shown (sender_trail_in s.me.0) (notes_in s.me.0) looks new
-      (subst (λ v. LooksOn P A v looks new) view looked.looked))
+  looks_shown d s new many fits h looked = grind (arith, common_steps, looks_end)
 
   -- its seat shows it still
   pub shows_looked : (d : C) (s s' : Seat (Option Page) (View C)) (many : ℕ) (fits : Bool)

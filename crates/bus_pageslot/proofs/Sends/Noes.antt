@@ -1,8 +1,8 @@
 -- What a look found is right for as long as it says: a no from the load of the least passed place
 -- on, and a yes while the length is the same.
-use Rattle.std.proofs.Common.{◌≡◌, ◌≢◌, ℕ, zero, suc, ◌+◌, ◌*◌, ◌<◌, ◌≤◌}
-use Rattle.std.proofs.Common.{arith, sym, ap, inl, inr}
+use Rattle.std.proofs.Common.{◌≡◌, ℕ, zero, suc, ◌+◌, ◌*◌, ◌<◌, ◌≤◌, arith, ap, inl, inr}
 use Rattle.std.proofs.lemmas.Bool.{cases_eq, cases_lt}
+use Rattle.std.proofs.lemmas.Grind.{common_steps}
 use Rattle.bus_core.specs.declared.limits.TheConstants.{PASSED_APART}
 use Rattle.bus_tenure.specs.Core.{length_at}
 use Rattle.bus_world.proofs.FloorLaws.{lesser_is}
@@ -19,13 +19,7 @@ least_below words at zero len r below = absurd (omega arith)
 least_below words at (suc k) len r below =
     let is = lesser_is (words (at + PASSED_APART * k)) (least_passed words at k len) in
     elim (cases_eq r k) [
-      | inl last ↦
-          let same : words (at + PASSED_APART * k) ≡ words (at + PASSED_APART * r) =
-          ap (λ q. words (at + PASSED_APART * q)) (sym last) in
-          elim is [
-            | inl a ↦ (let e = a.0 in let low = a.1 in omega arith)
-            | inr a ↦ (let e = a.0 in let low = a.1 in omega arith)
-          ]
+      | inl last ↦ grind (arith, common_steps)
       | inr before ↦
           let more = least_below words at k len r (omega arith) in
           elim is [
@@ -59,12 +53,7 @@ module _ (x : TableLayout) (found now : ℕ → ℕ) (many : ℕ)
     (longer : found length_at ≤ now length_at) where
   -- of a log that is no ring
   pub no_stays : x.passers ≡ 0 → ¬ FitsBy x found many → ¬ FitsBy x now many
-  no_stays none full fits =
-      let more = longer in
-      let was : floor_shown found x.passed x.passers (found length_at) ≡ 0 =
-      ap (λ n. floor_shown found x.passed n (found length_at)) none in
-      let is : floor_shown now x.passed x.passers (now length_at) ≡ 0 =
-      ap (λ n. floor_shown now x.passed n (now length_at)) none in full (omega arith)
+  no_stays none full fits = grind (arith, common_steps)
 
   -- and of a ring, where the least of the passed places is the same
   pub no_was_right : (me : ℕ) → many ≤ x.capacity → me < x.passers
@@ -77,10 +66,7 @@ module _ (x : TableLayout) (found now : ℕ → ℕ) (many : ℕ)
       let place : ℕ = found (passed_word x me) in
       let long : ℕ = found length_at in
       full (elim (cases_lt long place) [
-        | inl less ↦
-            let above = shown_above found x.passed x.passers long long (omega arith)
-            (λ none. absurd (omega arith))
-            (λ q there. let l = least q there in omega arith) in omega arith
+        | inl less ↦ grind (arith, common_steps, shown_above)
         | inr over ↦
             let above = shown_above found x.passed x.passers long place (omega arith)
             (λ none. absurd (omega arith)) (λ q there. least q there) in omega arith

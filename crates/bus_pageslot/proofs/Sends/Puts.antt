@@ -4,20 +4,20 @@ use Rattle.std.proofs.Common.{◌≡◌, ℕ, ◌+◌, ◌<◌, ◌≤◌, Optio
 use Rattle.std.proofs.Common.{sym, ◌∙◌, ap, subst, append_assoc}
 use Rattle.std.specs.Prelude.{All, Result, Ok, Err, IfOk, OnOk, OnErr}
 use Rattle.std.proofs.lemmas.List.{length-append}
+use Rattle.std.proofs.lemmas.Grind.{common_steps}
 use Rattle.atomic_table.specs.Seated.{TableId}
 use Rattle.atomic_table.specs.declared.shared.Seat.{Seat}
-use Rattle.bus_batch.specs.Batches.{Pending, next_of, CanPut, CanClose}
+use Rattle.bus_batch.specs.Batches.{next_of, CanPut, CanClose}
 use Rattle.bus_batch.specs.declared.batches.PutFault.{PutFault}
 use Rattle.bus_batch.specs.declared.batches.CloseFault.{CloseFault}
 use Rattle.bus_batch.specs.declared.messages.Mark.{Mark}
 use Rattle.bus_tenure.specs.declared.pages.Page.{Page}
 use Rattle.bus_world.specs.Headline.{Action, HasPut, HasMarked, puts}
 use Rattle.bus_pageslot.specs.declared.rule.View.{View}
-use Rattle.bus_pageslot.specs.declared.rule.View.TheVariants.{Sender}
-use Rattle.bus_automaton.specs.Processes.{TableLayout, Process}
+use Rattle.bus_automaton.specs.Processes.{Process}
 use Rattle.bus_automaton.specs.Lawful.{ProcessLaws, Keeps}
-use Rattle.bus_pageslot.specs.Rule.{Sat, sender_trail_in, notes_in}
-use Rattle.bus_pageslot.specs.Steps.{Accepts, Numbers, carried_of, since_in, all_in}
+use Rattle.bus_pageslot.specs.Rule.{Sat, sender_trail_in}
+use Rattle.bus_pageslot.specs.Steps.{Accepts, Numbers, since_in, all_in}
 use Rattle.bus_pageslot.specs.Steps.Accepts.{Message, Marks}
 use Rattle.bus_pageslot.specs.Seats.{Shows}
 use Rattle.bus_pageslot.proofs.SeatSteps.Accepting.{since_is}
@@ -36,31 +36,12 @@ module _ {C : Type 0} (P : Process C) (L : ProcessLaws P) (d : C) (s : Seat (Opt
 
   more_actions : (d' : C) (action : Action) → Accepts P h.shown d' (h.actions ++ action ∷ [])
       → actions_in P s.me.0 d' ≡ actions_in P s.me.0 d ++ action ∷ []
-  more_actions d' action more =
-      actions_are d' (h.actions ++ action ∷ []) more
-      ∙ sym (append_assoc (sender_trail_in s.me.0).actions h.actions (action ∷ []))
-      ∙ ap (λ l. l ++ action ∷ []) (sym (actions_are d h.actions h.accepts))
+  more_actions d' action more = grind (arith, common_steps, actions_are, append_assoc)
 
   -- it shows its seat still, with a batch of as few messages
   still : (d' : C) (actions : List Action) → Accepts P h.shown d' actions → Keeps P d d'
       → (P.queue d').first ≡ (P.queue d).first → length (P.queue d').messages ≤ 16 → Shows P d' s
-  still d' actions more keeps first few = record {
-    shown = h.shown;
-    actions = actions;
-    accepts = more;
-    counted = record {
-      first = (let a = h.counted.first in omega arith);
-      few = few;
-    };
-    laid = keeps.awaits ∙ h.laid;
-    numbered = h.numbered;
-    me =
-        h.me
-        ∙ ap (λ b. (Sender h.shown (sender_trail_in s.me.0) (notes_in s.me.0), carried_of b))
-        (sym keeps.holds);
-    words = h.words ∙ ap (λ (z : TableLayout). z.words) (sym keeps.table_layout);
-    slots = h.slots;
-  }
+  still d' actions more keeps first few = grind (arith, common_steps)
 
   module _ (bytes : List ℕ) (small : All (λ byte. byte < 256) bytes)
       (can : CanPut (P.queue d) (length bytes)) where
@@ -69,25 +50,14 @@ module _ {C : Type 0} (P : Process C) (L : ProcessLaws P) (d : C) (s : Seat (Opt
     one_message = Message d h.actions bytes h.accepts can small
 
     shows_message : Shows P (P.with_message d bytes) s
-    shows_message =
-        let waits = L.message_waits d bytes in
-        still (P.with_message d bytes) (h.actions ++ HasPut (next_of (P.queue d)) bytes ∷ [])
-        one_message (L.message d bytes) (ap (λ (q : Pending). q.first) waits)
-        (let room = can.room in
-        let more = length-append (P.queue d).messages (bytes ∷ []) in
-        let size = ap (λ (q : Pending). length q.messages) waits in omega arith)
+    shows_message = grind (arith, common_steps, still, one_message, length-append, length)
 
   module _ (mark : Mark) (can : CanClose (P.queue d)) where
     one_mark : Accepts P h.shown (P.with_mark d mark) (h.actions ++ HasMarked mark ∷ [])
     one_mark = Marks d h.actions mark h.accepts can
 
     shows_marked : Shows P (P.with_mark d mark) s
-    shows_marked =
-        let waits = L.mark_waits d mark in
-        still (P.with_mark d mark) (h.actions ++ HasMarked mark ∷ []) one_mark (L.marked d mark)
-        (ap (λ (q : Pending). q.first) waits)
-        (let few = h.counted.few in
-        let size = ap (λ (q : Pending). length q.messages) waits in omega arith)
+    shows_marked = grind (arith, common_steps, still, one_mark, length)
 
   -- it shows a seat that shows the same
   pub shows_same : (s' : Seat (Option Page) (View C)) → s'.me ≡ s.me → s'.table_id ≡ s.table_id
@@ -99,12 +69,7 @@ module _ {C : Type 0} (P : Process C) (L : ProcessLaws P) (d : C) (s : Seat (Opt
     counted = h.counted;
     laid = h.laid;
     numbered = subst (λ (m : Sat C). Numbers P h.shown (sender_trail_in m.0)) (sym same) h.numbered;
-    me =
-        same ∙ h.me
-        ∙ (λ i. (
-          Sender h.shown (sender_trail_in (sym same i).0) (notes_in (sym same i).0),
-          carried_of (P.holds d),
-        ));
+    me = cc;
     words = ap (λ (z : TableId). z.words) table ∙ h.words;
     slots = ap (λ (z : TableId). z.slots) table ∙ h.slots;
   }
@@ -125,11 +90,8 @@ module _ {C : Type 0} (P : Process C) (L : ProcessLaws P) (d : C) (s : Seat (Opt
       → OnOk r (CanPut (P.queue d) (length bytes))
       → IfOk r
       (λ number. actions_in P s.me.0 d' ≡ actions_in P s.me.0 d ++ HasPut number bytes ∷ [])
-  put_done d' bytes (Ok n) small number taken could = subst
-      (λ k. actions_in P s.me.0 d' ≡ actions_in P s.me.0 d ++ HasPut k bytes ∷ []) (sym number)
-      (ap (actions_in P s.me.0) taken
-      ∙ more_actions (P.with_message d bytes) (HasPut (next_of (P.queue d)) bytes)
-      (one_message bytes small could))
+  put_done d' bytes (Ok n) small number taken could =
+      grind (arith, common_steps, more_actions, one_message)
   put_done d' bytes (Err e) small number taken could = tt
 
   -- the number that a message gets is how many it has put before, from its first number on
@@ -155,7 +117,5 @@ module _ {C : Type 0} (P : Process C) (L : ProcessLaws P) (d : C) (s : Seat (Opt
       → OnOk r (d' ≡ P.with_mark d mark)
       → OnOk r (CanClose (P.queue d))
       → OnOk r (actions_in P s.me.0 d' ≡ actions_in P s.me.0 d ++ HasMarked mark ∷ [])
-  mark_done mark d' (Ok n) taken could =
-      ap (actions_in P s.me.0) taken
-      ∙ more_actions (P.with_mark d mark) (HasMarked mark) (one_mark mark could)
+  mark_done mark d' (Ok n) taken could = grind (arith, more_actions, one_mark)
   mark_done mark d' (Err e) taken could = tt

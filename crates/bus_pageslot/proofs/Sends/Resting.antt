@@ -1,17 +1,16 @@
 -- What a sender answers without a step is so: it is a turn of the machine behind the table, which
 -- adds no action.
-use Rattle.std.proofs.Common.{◌≡◌, ℕ, ◌+◌, ◌*◌, ◌<◌, cond, eq-eqb, Option, Some, inl, inr, List}
-use Rattle.std.proofs.Common.{[], ◌++◌, slice_get, slice_index, arith, refl, sym, ◌∙◌, ap, subst}
+use Rattle.std.proofs.Common.{◌≡◌, ℕ, ◌+◌, ◌*◌, ◌<◌, cond, eq-eqb, Option, Some, List, [], ◌++◌}
+use Rattle.std.proofs.Common.{slice_get, slice_index, arith, refl, sym, ◌∙◌, ap, subst}
 use Rattle.std.proofs.lemmas.List.{append-nil, nil_from_length}
+use Rattle.std.proofs.lemmas.Grind.{common_steps}
 use Rattle.atomic_table.specs.Table.{State}
 use Rattle.bus_core.specs.Senders.{Sender, Situation, Does, Announces, Validates, Unpins}
 use Rattle.bus_core.specs.Senders.{Withdraws, Scans, Clears, ReadsPassed, situation}
 use Rattle.bus_core.specs.Table.{Line, line, line_now, rests, rest_at}
-use Rattle.bus_machine.specs.Machine.{Machine, Trails, Happens, IsOnWord, going, found}
-use Rattle.bus_machine.specs.Machine.{stage_of, machine_after, turn_answer, turn_grown}
-use Rattle.bus_machine.specs.Machine.{turn_trails}
+use Rattle.bus_machine.specs.Machine.{Machine, Trails, Happens, going, found, machine_after}
+use Rattle.bus_machine.specs.Machine.{turn_answer, turn_grown, turn_trails}
 use Rattle.bus_machine.specs.Promise.{HasRows}
-use Rattle.bus_machine.specs.Remembering.{NoneIsLeft}
 use Rattle.bus_machine.specs.Telling.{Tells, TurnTells, SenderTells}
 use Rattle.bus_machine.proofs.Refused.RefusalLaws.{answers_refused}
 use Rattle.bus_tenure.specs.Core.{Election, Layout}
@@ -28,7 +27,7 @@ use Rattle.bus_world.specs.declared.events.Answer.TheVariants as answer
 use Rattle.bus_automaton.specs.Lawful.{AutomatonLaws, AcceptsIn, IsSender}
 use Rattle.bus_automaton.specs.OneAutomaton.{MachineHistory, IsMachineHistory, bus_of}
 use Rattle.bus_automaton.specs.OneProcess.{process_of}
-use Rattle.bus_automaton.specs.SenderTrails.{SenderTrail, with_actions}
+use Rattle.bus_automaton.specs.SenderTrails.{SenderTrail}
 use Rattle.bus_automaton.proofs.Leading.{all_go}
 use Rattle.bus_automaton.specs.Processes.{Process, Automaton, log_in}
 use Rattle.bus_pageslot.specs.Histories.{Shown}
@@ -76,13 +75,7 @@ module _ {E : Type 0} (X : Election E) (x : Layout) (reuse : Option ℕ) (bases 
     told = turn_answer b (line_now X d) 0
 
     takes_turn : Happens X b (Turn p 0) (answer.Turn told) (machine_after b p (line_now X d) 0)
-    takes_turn = record {
-      sender = d;
-      goes = goes;
-      within = subst (λ (l : Line E). IsOnWord b (l.op 0)) (sym l_is) tt;
-      answered = refl;
-      after = refl;
-    }
+    takes_turn = grind (arith, common_steps, goes, l_is)
 
     now_so : TurnIsSo (situation X d, line_now X d)
     now_so =
@@ -139,21 +132,7 @@ rests_truly {E} X x reuse bases L s r seat v d sender_trail actions shown more l
     accepted P A L r.state r.reached v its_seat.core d actions more in
     let z = grown.state in
     let its : IsSender P A p d = L.senders z p d grown.changes.reached grown.changes.here in
-    let did : z.trails.actions p ≡ sender_trail.actions ++ actions =
-    ap (λ (t : SenderTrail). t.actions)
-    (grown.changes.sender_trail
-    ∙ ap (λ (t : SenderTrail). with_actions t actions) its_seat.sender_trail_is) in
-    record {
-      machine = z.machine;
-      layout = grown.changes.reached.layout;
-      rows_are = grown.changes.reached.rows_are;
-      words = r.words ∙ sym grown.words;
-      tells = subst (λ q. TurnTells z.machine r.state.trails.log q d
-          (sender_trail.actions ++ actions) (P.rest d)) (sym its.me)
-          (subst (λ a. TurnTells z.machine r.state.trails.log p d a (P.rest d)) did
-          (subst (λ l. TurnTells z.machine l p d (z.trails.actions p) (P.rest d)) grown.log
-          (rest_so X x reuse bases z grown.changes.reached p d grown.changes.here law)));
-    }
+    grind (arith, rest_so)
 
 -- ---- what is refused
 -- Closed while the length is 0: nothing was published then
@@ -173,13 +152,4 @@ pub spent_refused : {E : Type 0} {P : Process (Sender E)} {A : Automaton (Sender
     (reuse : Option ℕ) (s : State (Option Page) (View (Sender E)))
     (r : TableInvariant P A s) (d : Sender E) (actions : List Action)
     → slice_index s.words 1 + 2 < 2 * x.rows → IsTrueAnswer x reuse r d actions turn.Spent → ⊥
-spent_refused x reuse s r d actions low h =
-    let m = h.machine in
-    let early : stage_of m + 2 < 2 * m.layout.rows =
-    subst (λ (y : Layout). stage_of m + 2 < 2 * y.rows) (sym h.layout)
-    (subst (λ ws. slice_index ws 1 + 2 < 2 * x.rows) h.words low) in
-    let told : NoneIsLeft m d.core.me actions = h.tells in
-    elim told [
-      | inl ended ↦ omega arith
-      | inr last ↦ (let is = last.1 in let opened = last.2.opened in omega arith)
-    ]
+spent_refused x reuse s r d actions low h = grind (arith, common_steps, slice_index)

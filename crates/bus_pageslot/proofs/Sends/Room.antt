@@ -1,6 +1,6 @@
 -- A sender that waits for room: what its turns and looks keep, and what they do not allow.
-use Rattle.std.proofs.Common.{◌≡◌, ℕ, ◌≤◌, arith, Bool, true, false, inl, inr, refl, sym, ◌∙◌, ap}
-use Rattle.std.proofs.Common.{subst}
+use Rattle.std.proofs.Common.{◌≡◌, ℕ, ◌≤◌, arith, Bool, true, inl, inr, refl, ◌∙◌, ap, subst}
+use Rattle.std.proofs.lemmas.Grind.{common_steps}
 use Rattle.rand_core.specs.Stream.{Stream}
 use Rattle.bus_tenure.specs.declared.turns.Turn.{Turn}
 use Rattle.bus_tenure.specs.declared.turns.Turn.TheVariants as turn
@@ -105,16 +105,12 @@ module _ {C F : Type 0} (P : Process C) (A : Automaton C) (T : Tellings C)
   pub sends_puts : ProcessLaws P → (answer : Turn) (new : SenderSeat C)
       → SendsForRoom P A T Tells first given answer new
       → puts (actions_of P new) ≡ puts (actions_of P first)
-  sends_puts K answer new h =
-      turned_puts P T K h.old h.word answer new h.turned
-      ∙ for_room_puts K Turning h.old h.asked h.before
+  sends_puts K answer new h = grind (arith, common_steps, turned_puts, for_room_puts)
 
   pub stopped_puts : ProcessLaws P → (new : SenderSeat C)
       → StopsForRoom P A T Tells first given new
       → puts (actions_of P new) ≡ puts (actions_of P first)
-  stopped_puts K new (inl h) =
-      turned_puts P T K h.old h.word h.answer new h.turned
-      ∙ for_room_puts K Turning h.old h.asked h.before
+  stopped_puts K new (inl h) = grind (arith, common_steps, turned_puts, for_room_puts)
   stopped_puts K new (inr h) = for_room_puts K (Looking h.looks) new h.asked h.before
 
   module _ (L : LeavesBatch P) where
@@ -151,19 +147,12 @@ module _ {C F : Type 0} (P : Process C) (A : Automaton C) (T : Tellings C)
     pub for_room_keeps : (answer : Turn) (new : SenderSeat C)
         → SendsForRoom P A T Tells first given answer new → is_refusal answer ≡ true
         → KeptAfter P first answer new
-    for_room_keeps answer new h refused =
-        let before = for_room_stays Turning h.old h.asked h.before in
-        elim ((turned_left P T L h.old h.word answer new h.turned).2 refused) [
-          | inl same ↦ inl (same ∙ before.0)
-          | inr ends ↦ inr (ends.0, sym before.1 ∙ ends.1)
-        ]
+    for_room_keeps answer new h refused = grind (arith, common_steps, for_room_stays, turned_left)
 
     -- and where it was told to stop
     pub stopped_waits : (new : SenderSeat C) → StopsForRoom P A T Tells first given new
         → waiting_of P new ≡ waiting_of P first
-    stopped_waits new (inl h) =
-        ((turned_left P T L h.old h.word h.answer new h.turned).0 (waiting_goes h.answer h.waits)).0
-        ∙ (for_room_stays Turning h.old h.asked h.before).0
+    stopped_waits new (inl h) = grind (arith, turned_left, waiting_goes, for_room_stays)
     stopped_waits new (inr h) = (for_room_stays (Looking h.looks) new h.asked h.before).0
 
 -- ---- what is refused
@@ -188,10 +177,5 @@ told_few P A T first times _ _ _ (Tries old f before) =
 pub room_refuses : {C F : Type 0} (P : Process C) (A : Automaton C) (T : Tellings C)
     (Tells : F → Bool → F → Type 0) (first new : SenderSeat C) (given f : F) → LeavesBatch P
     → RoomRefuses P A T Tells first new given f
-room_refuses P A T Tells first new given f L = record {
-  full = λ h. h.room refl;
-  told = λ times count next more goes.
-      let few = told_few P A T first times next new count goes in absurd (omega arith);
-  batch = λ next other goes. other (for_room_stays P A T Tells first given L next new f goes).0;
-  stopped = λ other h. other (stopped_waits P A T Tells first given L new h);
-}
+room_refuses P A T Tells first new given f L =
+    grind (arith, common_steps, told_few, for_room_stays, stopped_waits)

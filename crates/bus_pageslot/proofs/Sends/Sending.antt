@@ -1,13 +1,12 @@
 -- A turn puts nothing, and turns between which a function is asked are turns.
 use Rattle.std.proofs.Common.{◌≡◌, ℕ, Bool, true, false, Option, Some, None, List, [], ◌∷◌, ◌++◌}
-use Rattle.std.proofs.Common.{inl, inr, refl, sym, ◌∙◌, ap, subst, append_assoc}
+use Rattle.std.proofs.Common.{inl, inr, refl, sym, ◌∙◌, ap, subst, append_assoc, arith}
 use Rattle.std.specs.Prelude.{◌⊎◌, IfSome}
 use Rattle.std.proofs.lemmas.Bool.{true≢false}
-use Rattle.std.proofs.lemmas.Grind.{flat_map-append}
+use Rattle.std.proofs.lemmas.Grind.{flat_map-append, common_steps}
 use Rattle.std.proofs.lemmas.List.{append-nil}
 use Rattle.std.proofs.lemmas.Option.{same_Some}
 use Rattle.bus_register.specs.declared.kinds.Kind.{Kind}
-use Rattle.bus_register.specs.declared.registers.Op.{Op}
 use Rattle.bus_tenure.specs.declared.turns.Turn.{Turn}
 use Rattle.bus_batch.specs.Batches.{next_of}
 use Rattle.bus_world.specs.Headline.{Action, HasPut, put_of, puts}
@@ -31,21 +30,12 @@ took_puts : {C : Type 0} (P : Process C) → ProcessLaws P
     → (old : SenderSeat C) (word : ℕ) (a : Turn) (new : SenderSeat C) → Took P old word a new
     → puts (actions_of P new) ≡ puts (actions_of P old)
 took_puts P K old word a new h =
-    ap (λ t. puts t.actions) h.sender_trail
-    ∙ flat_map-append put_of (actions_of P old) (P.adds old.core h.found word).actions
-    ∙ ap (λ ms. puts (actions_of P old) ++ ms) (one_puts_nothing (P.kind old.core) h.found
-    (P.answer old.core h.found word) (P.adds old.core h.found word).actions
-    (K.one_action old.core h.found word)) ∙ append-nil (puts (actions_of P old))
+    grind (arith, common_steps, flat_map-append, one_puts_nothing, append-nil)
 
 pub turned_puts : {C : Type 0} (P : Process C) (T : Tellings C) → ProcessLaws P
     → (old : SenderSeat C) (word : ℕ) (a : Turn) (new : SenderSeat C) → Turned P T old word a new
     → puts (actions_of P new) ≡ puts (actions_of P old)
-turned_puts P T K old word a new h = by_step (P.op old.core word) refl
-  where
-    by_step : (o : Option Op) → P.op old.core word ≡ o
-        → puts (actions_of P new) ≡ puts (actions_of P old)
-    by_step None e = ap (λ s. puts (actions_of P s)) (h.rests e).0
-    by_step (Some op) e = took_puts P K old word a new (h.steps op e).took
+turned_puts P T K old word a new h = grind (arith, common_steps, took_puts)
 
 turns_puts : {C : Type 0} (P : Process C) (T : Tellings C) → ProcessLaws P
     → (first new : SenderSeat C) → TurnsOn P T first new
@@ -77,9 +67,7 @@ fills_puts P T K first _ _ (SentFull messages old new before full off) =
 
 pub same_sender : {C : Type 0} (old new : SenderSeat C) → new.core ≡ old.core → new.seat ≡ old.seat
     → new ≡ old
-same_sender old new core seat =
-    ap (λ c. record { core = c; seat = new.seat }) core
-    ∙ ap (λ s. record { core = old.core; seat = s }) seat
+same_sender old new core seat = grind (arith, common_steps)
 
 -- turns between which a function is asked are turns
 waits_goes : (k : Class) → is_one_of (Waits ∷ []) k ≡ true

@@ -1,16 +1,15 @@
 -- A sender stays who it is: its number, and that from which its messages are counted.
-use Rattle.std.proofs.Common.{◌≡◌, ℕ, ◌+◌, ◌==◌, Bool, true, false, cond, Option, Some, None, inl}
-use Rattle.std.proofs.Common.{inr, List, refl, ◌∙◌, ap, nat_le}
+use Rattle.std.proofs.Common.{◌≡◌, ℕ, ◌==◌, Bool, true, false, cond, Option, Some, None, inl, inr}
+use Rattle.std.proofs.Common.{List, refl, ◌∙◌, ap, nat_le, arith}
 use Rattle.std.specs.Prelude.{◌/◌}
+use Rattle.std.proofs.lemmas.Grind.{common_steps}
 use Rattle.atomic_table.specs.declared.shared.Seat.{Seat}
 use Rattle.rand_core.specs.Stream.{Stream}
 use Rattle.bus_adoptcommit.specs.declared.verdicts.Verdict.{Verdict}
 use Rattle.bus_automaton.specs.Buses.{process_with}
 use Rattle.bus_automaton.specs.Lawful.{ProcessLaws}
 use Rattle.bus_automaton.specs.Processes.{Process, Automaton}
-use Rattle.bus_automaton.specs.SenderTrails.{SenderTrail}
 use Rattle.bus_batch.specs.declared.messages.Mark.{Mark}
-use Rattle.bus_core.specs.Reusing.Passing.{passing_fed}
 use Rattle.bus_core.specs.Senders.{Sender, Situation, Does, Announces, Validates, Unpins}
 use Rattle.bus_core.specs.Senders.{Withdraws, Scans, Clears, ReadsPassed, situation}
 use Rattle.bus_core.specs.Table.{line, seen}
@@ -23,7 +22,7 @@ use Rattle.bus_tenure.specs.Core.{Core, Election}
 use Rattle.bus_tenure.specs.Elections.{election_with}
 use Rattle.bus_tenure.specs.Situations.{IsClosed, IsIdle, IsSpent, LooksAtStage, Elects, TakesPage}
 use Rattle.bus_tenure.specs.Situations.{AwaitsPage, StoresWord, StoresLength, GivesBack, HasHanded}
-use Rattle.bus_tenure.specs.Situations.{waits, core_begun, core_elected, core_floored}
+use Rattle.bus_tenure.specs.Situations.{waits, core_begun, core_elected}
 use Rattle.bus_tenure.specs.declared.pages.Page.{Page}
 use Rattle.bus_tenure.specs.declared.phases.Phase.TheVariants as phase
 use Rattle.bus_tenure.specs.declared.turns.Turn.{Turn}
@@ -50,27 +49,12 @@ module _ {E : Type 0} (X : Election E) (v : Sender E) where
   same_if false c d h k = k
 
   same_seen : (r : Option Reuse) (got : ℕ) → Same (seen X v.core r got).core
-  same_seen None got =
-      same_if (waits v.core got) v.core
-      (cond (nat_le v.core.layout.rows (got / 2)) (record v.core { least = got / 2 })
-      (core_begun X v.core (got / 2))) refl
-      (same_if (nat_le v.core.layout.rows (got / 2)) (record v.core { least = got / 2 })
-      (core_begun X v.core (got / 2)) refl refl)
-  same_seen (Some r) got =
-      same_if (waits v.core got) v.core
-      (cond (nat_le v.core.layout.rows (got / 2)) (record v.core { least = got / 2 }) v.core) refl
-      (same_if (nat_le v.core.layout.rows (got / 2)) (record v.core { least = got / 2 }) v.core
-      refl refl)
+  same_seen None got = grind (arith, common_steps, same_if, nat_le)
+  same_seen (Some r) got = grind (arith, common_steps, same_if, nat_le)
 
   same_elected : (t : ℕ) (e : E) (o : Option ℕ) → Same (core_elected v.core t e o)
   same_elected t e None = refl
-  same_elected t e (Some o) =
-      same_if (o == v.core.me) (record v.core { phase = phase.Electing t e })
-      (record v.core {
-        queue = record v.core.queue { busy = false };
-        least = t + 1;
-        phase = phase.Resting;
-      }) refl refl
+  same_elected t e (Some o) = grind (arith, common_steps, same_if)
 
   same_with_page : (c : Core E) → Same c → (t : ℕ) (home : Option Page)
       → Same (core_with_page c t home)
@@ -99,9 +83,7 @@ module _ {E : Type 0} (X : Election E) (v : Sender E) where
   me_after (Withdraws t) home got word = refl
   me_after (Scans s) home got word = refl
   me_after (Clears s) home got word = refl
-  me_after (ReadsPassed t p) home got word =
-      same_if ((passing_fed p got).loaded == v.core.layout.passers)
-      (core_floored v.core (passing_fed p got).least) v.core refl refl
+  me_after (ReadsPassed t p) home got word = grind (arith, common_steps, same_if)
 
 -- a process whose steps leave that
 abbrev pub LeavesNumber : {C : Type 0} → Process C → Type 0
@@ -118,10 +100,7 @@ leaves_number kind_of op fed Q v home got word =
 -- ---- a look
 pub looked_same : {C : Type 0} {P : Process C} (A : Automaton C) (old : SenderSeat C)
     (fits : Bool) (new : SenderSeat C) → LooksForRoom P A old fits new → IsSameSender P old new
-looked_same {P = P} A old fits new h = record {
-  me = ap P.me h.core;
-  first = ap (λ (t : SenderTrail). t.first) h.did;
-}
+looked_same {P = P} A old fits new h = grind (arith, common_steps)
 
 -- ---- turns
 module _ {C : Type 0} (P : Process C) (T : Tellings C) where
@@ -134,21 +113,7 @@ module _ {C : Type 0} (P : Process C) (T : Tellings C) where
   module _ (L : LeavesNumber P) where
     pub turned_same : (old : SenderSeat C) (word : ℕ) (answer : Turn) (new : SenderSeat C)
         → Turned P T old word answer new → IsSameSender P old new
-    turned_same old word answer new h = by_op (P.op old.core word) refl
-      where
-        by_op : (o : Option Op) → P.op old.core word ≡ o → IsSameSender P old new
-        by_op None is =
-            let none = (h.rests is).0 in
-            record {
-              me = ap (λ (s : SenderSeat C). P.me s.core) none;
-              first = ap (first_number_of P) none;
-            }
-        by_op (Some op) is =
-            let took = (h.steps op is).took in
-            record {
-              me = ap P.me took.core ∙ L old.core took.home took.got word;
-              first = ap (λ (t : SenderTrail). t.first) took.sender_trail;
-            }
+    turned_same old word answer new h = grind (arith, common_steps)
 
     turns_same : (first new : SenderSeat C) → TurnsOn P T first new → IsSameSender P first new
     turns_same first _ Here = same first
@@ -188,15 +153,11 @@ module _ {C : Type 0} (P : Process C) (T : Tellings C) where
 
       pub asking_same : (answer : Turn) (new : SenderSeat C)
           → SendsAsking P T Tells first given answer new → IsSameSender P first new
-      asking_same answer new h =
-          same_on (asks_same h.old h.asked h.before)
-          (turned_same h.old h.word answer new h.turned)
+      asking_same answer new h = grind (arith, common_steps, same_on, asks_same, turned_same)
 
       pub stops_same : (new : SenderSeat C) → StopsWaiting P T Tells first given new
           → IsSameSender P first new
-      stops_same new h =
-          same_on (asks_same h.old h.asked h.before)
-          (turned_same h.old h.word h.answer new h.turned)
+      stops_same new h = grind (arith, common_steps, same_on, asks_same, turned_same)
 
       room_same : {A : Automaton C} (next : Coming) (new : SenderSeat C) (f : F)
           → GoesForRoom P A T Tells first given next new f → IsSameSender P first new
@@ -215,15 +176,11 @@ module _ {C : Type 0} (P : Process C) (T : Tellings C) where
 
       pub sends_for_room_same : {A : Automaton C} (answer : Turn) (new : SenderSeat C)
           → SendsForRoom P A T Tells first given answer new → IsSameSender P first new
-      sends_for_room_same answer new h =
-          same_on (room_same _ h.old h.asked h.before)
-          (turned_same h.old h.word answer new h.turned)
+      sends_for_room_same answer new h = grind (arith, same_on, room_same, turned_same)
 
       pub stops_for_room_same : {A : Automaton C} (new : SenderSeat C)
           → StopsForRoom P A T Tells first given new → IsSameSender P first new
-      stops_for_room_same new (inl h) =
-          same_on (room_same _ h.old h.asked h.before)
-          (turned_same h.old h.word h.answer new h.turned)
+      stops_for_room_same new (inl h) = grind (arith, common_steps, same_on, room_same, turned_same)
       stops_for_room_same new (inr h) = room_same _ new h.asked h.before
 
 -- ---- the turns of a tenure
@@ -240,9 +197,7 @@ module _ {E : Type 0} (P : Process (Sender E)) (T : Tellings (Sender E)) (L : Le
 
     pub finishes_same : (X : Election E) (first : SenderSeat (Sender E)) (answer : Turn)
         (new : SenderSeat (Sender E)) → Finishes X P T first answer new → IsSameSender P first new
-    finishes_same X first answer new h =
-        same_on P T (through_same h.tenure first h.count h.old h.before)
-        (turned_same P T L h.old h.word answer new h.turned)
+    finishes_same X first answer new h = grind (arith, same_on, through_same, turned_same)
 
 -- ---- what it takes between its turns
 module _ {C : Type 0} (P : Process C) (K : ProcessLaws P) (old new : SenderSeat C)
@@ -252,13 +207,7 @@ module _ {C : Type 0} (P : Process C) (K : ProcessLaws P) (old new : SenderSeat 
 
   pub put_same : (bytes : List ℕ) → new.core ≡ P.with_message old.core bytes
       → IsSameSender P old new
-  put_same bytes is = record {
-    me = ap P.me is ∙ (K.message old.core bytes).me;
-    first = same_first;
-  }
+  put_same bytes is = grind (arith, common_steps, same_first)
 
   pub marked_same : (mark : Mark) → new.core ≡ P.with_mark old.core mark → IsSameSender P old new
-  marked_same mark is = record {
-    me = ap P.me is ∙ (K.marked old.core mark).me;
-    first = same_first;
-  }
+  marked_same mark is = grind (arith, common_steps, same_first)

@@ -1,12 +1,11 @@
 -- A turn of a tenure that is begun takes one of the turns that are left of it, and goes on in it or
 -- ends it: here those of its pin and of its election, and that it takes the page.
-use Rattle.std.proofs.Common.{◌≡◌, ℕ, ◌+◌, ◌-◌, ◌<◌, ◌≤◌, inl, inr, Bool, true, false, cond, Option}
+use Rattle.std.proofs.Common.{◌≡◌, ℕ, ◌+◌, ◌-◌, ◌<◌, ◌≤◌, inr, Bool, true, false, cond, Option}
 use Rattle.std.proofs.Common.{Some, None, IsSome, IsSomeAnd, nat_lt, ◌==◌, arith, refl, sym, ◌∙◌}
-use Rattle.std.proofs.Common.{ap, subst, is_some}
+use Rattle.std.proofs.Common.{ap, is_some}
 use Rattle.std.proofs.lemmas.Bool.{true≢false}
+use Rattle.std.proofs.lemmas.Grind.{common_steps}
 use Rattle.bus_register.specs.declared.registers.SenderNo.{SenderNo}
-use Rattle.bus_presence.specs.Reclamation.{reclaimer_after}
-use Rattle.bus_presence.specs.declared.pins.Pin.{Pin}
 use Rattle.bus_presence.specs.declared.pins.Pin.TheVariants.{Away, Announcing, Validating, Pinned}
 use Rattle.bus_presence.specs.declared.pins.Pin.TheVariants.{Unpinning, Invalidated}
 use Rattle.bus_tenure.specs.Core.{Core, Election}
@@ -19,9 +18,8 @@ use Rattle.bus_tenure.specs.declared.phases.Phase.TheVariants.{Resting, Electing
 use Rattle.bus_tenure.specs.declared.phases.Phase.TheVariants.{Giving}
 use Rattle.bus_tenure.specs.declared.turns.Turn.{Turn}
 use Rattle.bus_tenure.specs.declared.turns.Turn.TheVariants as turn
-use Rattle.bus_core.specs.Keeping.{IsAway, sender}
+use Rattle.bus_core.specs.Keeping.{sender}
 use Rattle.bus_core.specs.Reusing.Keeping.{held_of}
-use Rattle.bus_core.specs.Reusing.Participants.{sizes_with}
 use Rattle.bus_core.specs.Reusing.Turns.{answer_of_loss, tenure_begun_by}
 use Rattle.bus_core.specs.Seen.{tenure_begun, begun_by}
 use Rattle.bus_core.specs.Senders.{Sender, participant_of}
@@ -30,28 +28,18 @@ use Rattle.bus_core.specs.Telling.{HasBegunNone}
 use Rattle.bus_core.specs.declared.reuses.Reuse.{Reuse}
 use Rattle.bus_core.specs.Causes.{LeavesTenure, AsLoser, AsHolder, AsLate}
 use Rattle.bus_core.specs.Places.{StandsIn}
-use Rattle.bus_pageslot.specs.Finishing.{turns_to_clear, turns_in, turns_to_enter, turns_of_pin}
-use Rattle.bus_pageslot.specs.Finishing.{turns_to_finish, is_behind, ends_tenure, StaysOrEnds}
+use Rattle.bus_pageslot.specs.Finishing.{turns_to_clear, turns_in, turns_to_finish, is_behind}
+use Rattle.bus_pageslot.specs.Finishing.{ends_tenure, StaysOrEnds}
 
 -- who has begun none has begun no tenure
 pub none_begun : {E : Type 0} (v : Sender E) → HasBegunNone v → tenure_begun v ≡ None
-none_begun {E} v h = by v.reuse h.away where
-  by : (r : Option Reuse) → IsAway r → begun_by v.core r ≡ None
-  by None away = ap tenure_of h.rests
-  by (Some r) away = ap (tenure_begun_by v.core) away ∙ ap tenure_of h.rests
+none_begun {E} v h = grind (arith, common_steps)
 
 -- who stands in a tenure has begun one, whatever its pin
 pub stands : {E : Type 0} (c : Core E) (r : Option Reuse) → IsSome (tenure_of c.phase)
     → IsSome (begun_by c r)
 stands {E} c None some = some
-stands {E} c (Some r) some = by r.pin where
-  by : (pin : Pin) → IsSome (tenure_begun_by c pin)
-  by Away = some
-  by (Announcing t) = refl
-  by (Validating t) = refl
-  by (Pinned t) = refl
-  by (Unpinning t) = refl
-  by (Invalidated t) = refl
+stands {E} c (Some r) some = grind (arith, common_steps)
 
 -- ---- one turn
 module _ {E : Type 0} (X : Election E) where
@@ -63,11 +51,7 @@ module _ {E : Type 0} (X : Election E) where
 
   pub falls_some : (v w : Sender E) (a : Turn) → turns_to_finish X w < turns_to_finish X v
       → StaysOrEnds v a w → IsTurn v a w
-  falls_some v w a less outcome = record {
-    falls = λ other. less;
-    some = omega arith;
-    outcome = outcome;
-  }
+  falls_some v w a less outcome = grind (arith, common_steps)
 
   -- it goes on in the same tenure
   abbrev IsSame : (v w : Sender E) → Type 0
@@ -77,16 +61,7 @@ module _ {E : Type 0} (X : Election E) where
   pub announces : (c : Core E) (r : Option Reuse) (t : ℕ) → IsSomeAnd r (λ y. y.pin ≡ Announcing t)
       → IsTurn (sender c r) turn.Going (sender c (reuse_pinning r (Validating t)))
   announces c None t p = absurd p
-  announces c (Some r) t p =
-      let e : turns_of_pin X c r.pin ≡ 2 + turns_to_enter X c t = ap (turns_of_pin X c) p in
-      falls_some (sender c (Some r)) (sender c (reuse_pinning (Some r) (Validating t))) turn.Going
-      (omega arith)
-      (inl record {
-        same = (sym (ap (tenure_begun_by c) p));
-        begun = refl;
-        goes = refl;
-        holds = λ b. absurd cc;
-      })
+  announces c (Some r) t p = grind (arith, common_steps, falls_some)
 
   pub validates : (here : Bool) (c : Core E) (r : Option Reuse) (t : ℕ)
       → IsSomeAnd r (λ y. y.pin ≡ Validating t) → c.phase ≡ Resting
@@ -94,27 +69,8 @@ module _ {E : Type 0} (X : Election E) where
       (sender (cond here (core_begun X c t) c)
       (reuse_pinning r (cond here (Pinned t) (Invalidated t))))
   validates here c None t p rests = absurd p
-  validates true c (Some r) t p rests =
-      let e : turns_of_pin X c r.pin ≡ 1 + turns_to_enter X c t = ap (turns_of_pin X c) p in
-      falls_some (sender c (Some r))
-      (sender (core_begun X c t) (reuse_pinning (Some r) (Pinned t))) turn.Going
-      (omega arith)
-      (inl record {
-        same = (sym (ap (tenure_begun_by c) p));
-        begun = refl;
-        goes = refl;
-        holds = λ b. absurd cc;
-      })
-  validates false c (Some r) t p rests =
-      let e : turns_of_pin X c r.pin ≡ 1 + turns_to_enter X c t = ap (turns_of_pin X c) p in
-      falls_some (sender c (Some r)) (sender c (reuse_pinning (Some r) (Invalidated t))) turn.Going
-      (omega arith)
-      (inl record {
-        same = (sym (ap (tenure_begun_by c) p));
-        begun = refl;
-        goes = refl;
-        holds = λ b. absurd cc;
-      })
+  validates true c (Some r) t p rests = grind (arith, common_steps, falls_some)
+  validates false c (Some r) t p rests = grind (arith, common_steps, falls_some)
 
   -- once its presence is cleared it holds a page, or its tenure has ended
   parts : (c : Core E) (r : Reuse) (a : Turn) (ph : Phase E) → c.phase ≡ ph
@@ -125,33 +81,12 @@ module _ {E : Type 0} (X : Election E) where
   parts c r a Resting e last other ends same =
       inr record { none = ap tenure_of e; ends = ends refl }
   parts c r a (Electing t f) e last other ends same =
-      inl record {
-        same = same t refl;
-        begun = ap (λ p. is_some (tenure_of p)) e;
-        goes = last;
-        holds = λ b. absurd (true≢false (sym b ∙ other));
-      }
-  parts c r a (Taken t) e last other ends same =
-      inl record {
-        same = same t refl;
-        begun = ap (λ p. is_some (tenure_of p)) e;
-        goes = last;
-        holds = λ b. absurd (true≢false (sym b ∙ other));
-      }
+      grind (arith, common_steps, is_some, true≢false)
+  parts c r a (Taken t) e last other ends same = grind (arith, common_steps, is_some, true≢false)
   parts c r a (Holding t page stored published) e last other ends same =
-      inl record {
-        same = same t refl;
-        begun = ap (λ p. is_some (tenure_of p)) e;
-        goes = last;
-        holds = λ b. absurd (true≢false (sym b ∙ other));
-      }
+      grind (arith, common_steps, is_some, true≢false)
   parts c r a (Giving t reason) e last other ends same =
-      inl record {
-        same = same t refl;
-        begun = ap (λ p. is_some (tenure_of p)) e;
-        goes = last;
-        holds = λ b. absurd (true≢false (sym b ∙ other));
-      }
+      grind (arith, common_steps, is_some, true≢false)
 
   -- what it remembers of a loss is no last answer, and of no loss it holds a page
   lost_last : (t : ℕ) (o : Option SenderNo) → is_last (answer_of_loss t o) ≡ false
@@ -192,13 +127,7 @@ module _ {E : Type 0} (X : Election E) where
       → IsTurn (sender c r) (answer_of_loss t (lost_of r)) (sender c (reuse_pinning r Away))
   unpins c None t p held leaves = absurd p
   unpins c (Some r) t p held leaves =
-      let e : turns_of_pin X c r.pin ≡ 1 = ap (turns_of_pin X c) p in
-      falls_some (sender c (Some r)) (sender c (reuse_pinning (Some r) Away))
-      (answer_of_loss t r.lost) (omega arith)
-      (parts c r (answer_of_loss t r.lost) c.phase refl (lost_last t r.lost) (lost_other t r.lost)
-      (λ rests. lost_ends t r.lost (λ going.
-      let bad : None ≡ Some t = sym (ap held_of rests) ∙ held going in cc))
-      (λ u stands. parts_same c r t u p leaves stands))
+      grind (arith, common_steps, falls_some, parts, lost_last, lost_other, lost_ends, parts_same)
 
   -- who came too late for a tenure rests
   late_rests : (c : Core E) (r : Reuse) (t : ℕ) → r.pin ≡ Invalidated t
@@ -212,12 +141,7 @@ module _ {E : Type 0} (X : Election E) where
       → IsSomeAnd r (λ y. LeavesTenure (participant_of c y))
       → IsTurn (sender c r) turn.Waiting (sender c (reuse_pinning r Away))
   withdraws c None t p leaves = absurd p
-  withdraws c (Some r) t p leaves =
-      let e : turns_of_pin X c r.pin ≡ 1 = ap (turns_of_pin X c) p in
-      let rests : c.phase ≡ Resting = late_rests c r t p leaves in
-      falls_some (sender c (Some r)) (sender c (reuse_pinning (Some r) Away)) turn.Waiting
-      (omega arith)
-      (inr record { none = ap tenure_of rests; ends = refl })
+  withdraws c (Some r) t p leaves = grind (arith, common_steps, late_rests, falls_some)
 
   -- ---- its election
   module _ (c : Core E) (t : ℕ) (e f : E) (at : c.phase ≡ Electing t e)
@@ -240,29 +164,9 @@ module _ {E : Type 0} (X : Election E) where
         ])
         → IsTurn (sender c r) turn.Going w
     elects_on None lost w inside is =
-        let e = in_election None in
-        subst (IsTurn (sender c None) turn.Going) (sym is)
-        (falls_some (sender c None) (sender (record c { phase = Electing t f }) None) turn.Going
-        (omega arith)
-        (inl record {
-          same = (in_tenure None inside);
-          begun = refl;
-          goes = refl;
-          holds = λ b. absurd cc;
-        }))
+        grind (arith, common_steps, in_election, falls_some, in_tenure)
     elects_on (Some r) lost w inside is =
-        let e = in_election (Some r) in
-        subst (IsTurn (sender c (Some r)) turn.Going) (sym is)
-        (falls_some (sender c (Some r))
-        (sender (record c { phase = Electing t f })
-        (Some record r { pin = Pinned t; lost = lost })) turn.Going
-        (omega arith)
-        (inl record {
-          same = (in_tenure (Some r) inside);
-          begun = refl;
-          goes = refl;
-          holds = λ b. absurd cc;
-        }))
+        grind (arith, common_steps, in_election, falls_some, in_tenure)
 
     -- or another
     loses : (r : Option Reuse) (o : ℕ) (itself : Bool) → StandsIn r t
@@ -286,31 +190,8 @@ module _ {E : Type 0} (X : Election E) where
         ]))
     loses None o true inside = elects_on None None _ inside refl
     loses (Some r) o true inside = elects_on (Some r) r.lost _ inside refl
-    loses None o false inside =
-        let e = in_election None in
-        let new = record c {
-          queue = record c.queue { busy = false };
-          least = t + 1;
-          phase = Resting;
-        } in
-        falls_some (sender c None) (sender new None) (turn.Lost t record { 0 = o })
-        (omega arith) (inr record { none = refl; ends = refl })
-    loses (Some r) o false inside =
-        let e = in_election (Some r) in
-        let new = record c {
-          queue = record c.queue { busy = false };
-          least = t + 1;
-          phase = Resting;
-        } in
-        falls_some (sender c (Some r))
-        (sender new (Some record r { pin = Unpinning t; lost = Some record { 0 = o } })) turn.Going
-        (omega arith)
-        (inl record {
-          same = (in_tenure (Some r) inside);
-          begun = refl;
-          goes = refl;
-          holds = λ b. absurd cc;
-        })
+    loses None o false inside = grind (arith, common_steps, in_election, falls_some)
+    loses (Some r) o false inside = grind (arith, common_steps, in_election, falls_some, in_tenure)
 
     pub elects : (r : Option Reuse) (own : Option ℕ) → StandsIn r t
         → IsTurn (sender c r) (answer_elected c r t own)
@@ -338,27 +219,6 @@ module _ {E : Type 0} (X : Election E) where
     pub takes : (r : Option Reuse) (page : Page) → StandsIn r t
         → IsTurn (sender c r) (turn.Own t)
         (sender (record c { phase = Holding t page 0 false }) (reuse_taken c.layout r t))
-    takes None page inside =
-        let e = in_election None in
-        falls_some (sender c None) (sender (record c { phase = Holding t page 0 false }) None)
-        (turn.Own t) (omega arith)
-        (inl record {
-          same = (in_tenure None inside);
-          begun = refl;
-          goes = refl;
-          holds = λ b. absurd cc;
-        })
+    takes None page inside = grind (arith, common_steps, in_election, falls_some, in_tenure)
     takes (Some r) page inside =
-        let e = in_election (Some r) in
-        let x = sizes_with c.layout r.rows in
-        let few : turns_to_clear (reclaimer_after x t) ≤ c.layout.senders + c.layout.width =
-        row_left (nat_lt (t + 1) x.rows) _ _ _ in
-        falls_some (sender c (Some r))
-        (sender (record c { phase = Holding t page 0 false }) (reuse_taken c.layout (Some r) t))
-        (turn.Own t) (omega arith)
-        (inl record {
-          same = (in_tenure (Some r) inside);
-          begun = refl;
-          goes = refl;
-          holds = λ b. absurd cc;
-        })
+        grind (arith, common_steps, in_election, row_left, nat_lt, falls_some, in_tenure)
