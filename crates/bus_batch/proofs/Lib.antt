@@ -13,6 +13,8 @@ pub mod Bytes
 pub mod Taking
 -- From one step of a reader to what it has read.
 pub mod Feeding
+-- The words of one message, read together.
+pub mod Spans
 -- Where a reader stands is one function of what it has read.
 pub mod Standing
 -- The words of a batch.

@@ -71,7 +71,7 @@ padded k w some few =
     )
 
 -- ---- a word at the end of bytes that have zeros behind them
-all_zeros : (xs : List ℕ) → All (λ b. b ≡ 0) xs → xs ≡ replicate (length xs) 0
+pub all_zeros : (xs : List ℕ) → All (λ b. b ≡ 0) xs → xs ≡ replicate (length xs) 0
 all_zeros [] none = refl
 all_zeros (x ∷ xs) none =
     let first = All-head (λ b. b ≡ 0) x xs none in

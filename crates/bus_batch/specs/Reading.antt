@@ -138,6 +138,14 @@ is_between (Data owner left room number len) = false
 is_between Ended = false
 is_between Bad = false
 
+-- how many words are left of its frame, where the next is a message's or a mark
+abbrev pub words_left : Place → ℕ
+words_left Between = 0
+words_left (Body owner left room) = left
+words_left (Data owner left room number len) = 0
+words_left Ended = 0
+words_left Bad = 0
+
 -- words that are no log, or gave the end
 abbrev pub IsTornOrEnded : ℕ → List ℕ → List (Option Piece) → Type 0
 IsTornOrEnded senders words pieces =

@@ -27,4 +27,4 @@ mod words;
 
 pub use batches::{Batch, CloseFault, PutFault};
 pub use messages::{Item, Mark, Message, Piece};
-pub use readers::{BadWord, FrameReader};
+pub use readers::{BadWord, FrameReader, Span};

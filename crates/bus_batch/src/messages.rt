@@ -92,9 +92,18 @@ impl Message {
         self.len == 0
     }
 
+    /// No byte.
+    #[inline(always)]
+    pub fn clear(&mut self)
+        ensures { self.new ≡ [] }
+    {
+        self.bytes = [0; MOST_BYTES];
+        self.len = 0;
+    }
+
     /// The bytes with the eight of a word at the end.
     #[inline(always)]
-    pub(crate) fn append_word(&mut self, word: u64)
+    pub fn append_word(&mut self, word: u64)
         requires { length self.old + 8 ≤ MOST_BYTES }
         ensures { self.new ≡ self.old ++ to_be_bytes w64 word }
     {
@@ -111,6 +120,16 @@ impl Message {
         let all = self.len + more.len();
         self.bytes[self.len..all].copy_from_slice(more);
         self.len = all;
+    }
+
+    /// So many of its bytes, the first; the others are zero.
+    #[inline(always)]
+    pub(crate) fn truncate(&mut self, len: usize)
+        requires within { len ≤ length self.old }
+        requires padding { All (λ b. b ≡ 0) (drop len self.old) }
+        ensures { self.new ≡ take len self.old }
+    {
+        self.len = len;
     }
 
     /// The bytes that were begun, and the first ones of a word, of which the others are zero: so

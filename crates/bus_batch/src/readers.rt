@@ -34,6 +34,20 @@ struct Length {
     number: u64,
 }
 
+/// A message with bytes that a frame goes on with: how many words of bytes stand behind its own,
+/// and what a reader knows of it before these are read.
+#[derive(Clone, Copy)]
+pub struct Span {
+    /// 1 to 7.
+    pub words: u64,
+    owner: SenderNo,
+    /// Of the frame so many words are left, its own among them, and so many messages at most.
+    left: u64,
+    room: u64,
+    number: u64,
+    len: u64,
+}
+
 /// Where a reader stands in the log.
 #[derive(Clone, Copy, Debug)]
 enum Place {
@@ -141,6 +155,8 @@ impl FrameReader {
     ghost use Rattle.bus_batch.specs.Reading.{IsTornOrEnded, IsSound};
     ghost use Rattle.bus_batch.specs.declared.messages.Piece.TheVariants as piece;
     ghost use Rattle.bus_batch.specs.Steps.{Steps, Refuses};
+    ghost use Rattle.bus_batch.specs.Reading.{words_left};
+    ghost use Rattle.bus_batch.specs.Spans.{IsSpan, LeadsOn, Stops, GoesOnWithin, HasBytes, midway};
 
     /// A reader of a log of so many senders, before its first word.
     pub fn new(senders: u64) -> FrameReader
@@ -461,6 +477,69 @@ impl FrameReader {
         item.message
             .finish(&mut self.bytes, word, told.len as usize);
         self.place = place_after(owner, left - 1, room);
+        true
+    }
+
+    /// How many words are left of its frame, where the next is a message's or a mark; else 0.
+    #[inline(always)]
+    pub fn left(&self) -> u64
+        ensures { result ≡ words_left self.now.place }
+    {
+        match self.place {
+            Place::Body { left, .. } => left,
+            _ => 0,
+        }
+    }
+
+    /// A message with bytes that the next word begins; it may find none. Nothing is taken yet:
+    /// `take_span` takes its words all at once.
+    #[inline(always)]
+    pub fn span(&self, told: u64) -> Option<Span>
+        ensures span { IfSome result (IsSpan self.now) }
+        // Its own word and those of bytes, but for the last, say nothing by themselves.
+        ensures begins { IfSome result
+            (λ span. LeadsOn self.now told None (midway self.now span [])) }
+        ensures within { IfSome result (GoesOnWithin self.now) }
+    {
+        let Place::Body { owner, left, room } = self.place else {
+            return None;
+        };
+        let Some(length) = message_of(told) else {
+            return None;
+        };
+        if length.len == 0 || !can_hold(left, room, length.len) {
+            return None;
+        }
+        Some(Span {
+            words: (length.len + 7) / 8,
+            owner,
+            left,
+            room,
+            number: length.number,
+            len: length.len,
+        })
+    }
+
+    /// Takes all words of a message, the last of them this, where the item has the bytes of those
+    /// behind its own; makes the item of them, and says whether it did. A bad one changes nothing.
+    #[inline(always)]
+    pub fn take_span(&mut self, span: Span, last: u64, item: &mut Item) -> bool
+        requires span { IsSpan self.old span }
+        requires bytes { (taken : List ℕ) × HasBytes span taken last item.old }
+        ensures senders { self.new.senders ≡ self.old.senders }
+        ensures good { IsTrue result → (taken : List ℕ) → HasBytes span taken last item.old
+            → LeadsOn (midway self.old span taken) last (Some (piece.Item item.new)) self.new }
+        ensures bad { result ≡ false → (taken : List ℕ) → HasBytes span taken last item.old
+            → Stops (midway self.old span taken) last }
+        ensures stays { result ≡ false → (self.new ≡ self.old) × (item.new ≡ item.old) }
+    {
+        if !is_padded(last, span.len + 8 - 8 * span.words) {
+            return false;
+        }
+        item.sender = span.owner;
+        item.number = span.number;
+        item.message.truncate(span.len as usize);
+        self.place = place_after(span.owner, span.left - (1 + span.words), span.room - 1);
         true
     }
 

@@ -1,7 +1,8 @@
 -- What one good word does to a reading of a log, and when no store is due.
-use Rattle.std.proofs.Common.{◌≡◌, ◌≢◌, ℕ, ◌+◌, ◌≤◌, List, [], ◌∷◌, ◌++◌, Bool, true, false, cond}
+use Rattle.std.proofs.Common.{◌≡◌, ◌≢◌, ℕ, ◌+◌, ◌≤◌, List, [], ◌∷◌, ◌++◌, length, Bool, true, false}
+use Rattle.std.proofs.Common.{cond}
 use Rattle.std.proofs.Common.{nat_lt, ◌&&◌, refl, sym, ap, ◌∙◌, subst, inr, arith}
-use Rattle.std.specs.Prelude.{Option, Some, None, ◌||◌}
+use Rattle.std.specs.Prelude.{Option, Some, None, IfSome, ◌||◌}
 use Rattle.std.specs.List.{list_any}
 use Rattle.std.proofs.Math.Bool.{or-false}
 use Rattle.std.proofs.lemmas.List.Folds.{list_any-append}
@@ -9,9 +10,13 @@ use Rattle.std.proofs.lemmas.List.{length-append}
 use Rattle.bus_batch.specs.declared.messages.Piece.{Piece}
 use Rattle.bus_batch.specs.Frames.{GivesPiece, is_end}
 use Rattle.bus_batch.specs.Reading.{Reading, HasRead, is_between}
+use Rattle.bus_batch.specs.Spans.{LeadsOn, GoesOnWithin, midway}
+use Rattle.bus_batch.specs.declared.readers.Span.{Span}
 use Rattle.bus_deliverylog.specs.declared.receiving.RecvTurn.{RecvTurn}
+use Rattle.bus_deliverylog.specs.declared.receiving.RecvTurn.TheVariants as turn
 use Rattle.bus_deliverylog.specs.Receiving.{LogReading, HasReceived, HasSeen, TakesWord, turn_of}
 use Rattle.bus_deliverylog.specs.Receiving.{Receiving, passing_due}
+use Rattle.bus_deliverylog.specs.Receiving.{TakesNext, TakesWithin, midway_in}
 
 -- the reading after a good word
 abbrev pub moved : LogReading → Reading → Bool → LogReading
@@ -78,6 +83,89 @@ module _ (old parts : LogReading) (same : parts ≡ old) (frames' : Reading) (go
               ∙ ap (λ z. z || (is_end found || false)) none ∙ or-false (is_end found));
         },
       )
+
+-- ---- the words of one message, read together
+-- what follows of each, of the one that there is
+pub if_some : {A : Type 0} {P Q : A → Type 0} → ((a : A) → P a → Q a) → (found : Option A)
+    → IfSome found P → IfSome found Q
+if_some follows None some = tt
+if_some follows (Some a) some = follows a some
+
+module _ (old : LogReading) (span : Span) where
+  received_on : (mid new : LogReading) (got : ℕ) (found : Option Piece) (words : List ℕ)
+      (pieces : List (Option Piece)) → HasReceived words pieces mid
+      → HasRead new.frames.senders (words ++ got ∷ []) (pieces ++ found ∷ []) new.frames
+      → new.place ≡ mid.place + 1 → HasReceived (words ++ got ∷ []) (pieces ++ found ∷ []) new
+  received_on mid new got found words pieces had read place = record {
+    read = read;
+    place = place ∙ ap (λ z. z + 1) had.place ∙ sym (length-append words (got ∷ []));
+  }
+
+  pub span_begins : (told : ℕ) → LeadsOn old.frames told None (midway old.frames span [])
+      → TakesNext old told turn.Going (midway_in old span [])
+  span_begins told leads words pieces had =
+      let on = leads words pieces had.read in
+      inr (record {
+        found = None;
+        gives = on.0;
+        answer_is = refl;
+        received =
+            received_on old (midway_in old span []) told None words pieces had on.1 refl;
+        new_is = refl;
+      })
+
+  pub span_goes_on : GoesOnWithin old.frames span → TakesWithin old span
+  span_goes_on goes taken word fits more words pieces had =
+      let on = goes taken word fits more words pieces had.read in
+      let place : old.place + (1 + length (taken ++ word ∷ []))
+      ≡ old.place + (1 + length taken) + 1 =
+      let e = length-append taken (word ∷ []) in omega arith in
+      inr (record {
+        found = None;
+        gives = on.0;
+        answer_is = refl;
+        received = received_on (midway_in old span taken)
+            (midway_in old span (taken ++ word ∷ [])) word None words pieces had on.1 place;
+        new_is = ap (λ n. record (midway_in old span (taken ++ word ∷ [])) { place = n }) place;
+      })
+
+  module _ (taken : List ℕ) (last : ℕ) (all : length taken + 1 ≡ span.words) (frames' : Reading)
+      (found : Option Piece) (goes : false ≡ is_end found)
+      (leads : LeadsOn (midway old.frames span taken) last found frames')
+      (senders : frames'.senders ≡ old.frames.senders) where
+    span_place : old.place + (1 + length taken) + 1 ≡ old.place + (1 + span.words)
+    span_place = omega arith
+
+    span_moved : moved (midway_in old span taken) frames' false
+        ≡ record (midway_in old span taken) {
+          place = old.place + (1 + span.words);
+          frames = frames';
+        }
+    span_moved =
+        ap (λ n. record (midway_in old span taken) { place = n; frames = frames' }) span_place
+
+    pub span_ends : (answer : RecvTurn) → answer ≡ turn_of found
+        → TakesNext (midway_in old span taken) last answer (record (midway_in old span taken) {
+          place = old.place + (1 + span.words);
+          frames = frames';
+        })
+    span_ends answer answer_is words pieces had =
+        subst (TakesWord words pieces (midway_in old span taken) last answer) span_moved
+        (good_word (midway_in old span taken) (midway_in old span taken) refl frames' last found
+        false (λ w p h. (leads w p h).1) senders goes answer words pieces had
+        (λ w p h. (leads w p h).0) answer_is)
+
+    pub span_seen : old.place + (1 + span.words) ≤ old.known → HasSeen (midway_in old span taken)
+        → (old.place + (1 + span.words) ≤ old.known) × HasSeen (record (midway_in old span taken) {
+          place = old.place + (1 + span.words);
+          frames = frames';
+        })
+    span_seen known seen =
+        let more = seen_more (midway_in old span taken) (midway_in old span taken) refl frames' last
+        found false (λ w p h. (leads w p h).1) senders goes
+        (λ e. absurd (let e' : old.place + (1 + length taken) ≡ old.known = e in omega arith)) refl
+        (omega arith, seen) in
+        (known, subst HasSeen span_moved more.1)
 
 -- ---- without a passed place no store is due
 pub no_due : (v : Receiving) → v.passed_at ≡ None → passing_due v ≡ None

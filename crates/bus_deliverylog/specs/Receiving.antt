@@ -1,5 +1,6 @@
 -- A receiver's end of the log: what it knows, and what one load does to it.
-use Rattle.std.specs.Prelude.{◌≡◌, ◌≢◌, ℕ, ◌+◌, ◌%◌, ◌<◌, ◌≤◌, List, [], ◌∷◌, ◌++◌, length, ◌⊎◌}
+use Rattle.std.specs.Prelude.{◌≡◌, ◌≢◌, ℕ, ◌+◌, ◌%◌, ◌^◌, ◌<◌, ◌≤◌, List, [], ◌∷◌, ◌++◌, length}
+use Rattle.std.specs.Prelude.{◌⊎◌}
 use Rattle.std.specs.Prelude.{Bool, true, false, Option, Some, None, if◌then◌else◌, ◌==◌, ◌&&◌}
 use Rattle.std.specs.Prelude.{nat_lt}
 use Rattle.std.specs.List.{list_any}
@@ -13,6 +14,8 @@ use Rattle.bus_batch.specs.declared.messages.Piece.{Piece}
 use Rattle.bus_batch.specs.declared.messages.Piece.TheVariants as piece
 use Rattle.bus_batch.specs.Frames.{IsBadWord, GivesPiece, is_end}
 use Rattle.bus_batch.specs.Reading.{Reading, HasRead, is_between}
+use Rattle.bus_batch.specs.Spans.{midway}
+use Rattle.bus_batch.specs.declared.readers.Span.{Span}
 use Rattle.bus_deliverylog.specs.declared.receiving.RecvTurn.{RecvTurn}
 use Rattle.bus_deliverylog.specs.declared.receiving.RecvTurn.TheVariants as turn
 
@@ -148,6 +151,14 @@ pub record HasReceived (words : List ℕ) (pieces : List (Option Piece)) (r : Lo
   pub read : HasRead r.frames.senders words pieces r.frames
   pub place : r.place ≡ length words
 
+-- where a reader of a log stands that has read the own word of a message, and these of its bytes
+abbrev pub midway_in : LogReading → Span → List ℕ → LogReading
+midway_in r span taken = record r {
+  place = r.place + (1 + length taken);
+  frames = midway r.frames span taken;
+  ended = false;
+}
+
 -- some words were read with which a log begins, and it has ended exactly where the end was among
 -- what they gave
 pub record HasSeen (r : LogReading) : Type 0 where
@@ -192,3 +203,9 @@ abbrev pub TakesNext : LogReading → ℕ → RecvTurn → LogReading → Type 0
 TakesNext old got answer new =
     (words : List ℕ) (pieces : List (Option Piece)) → HasReceived words pieces old
     → TakesWord words pieces old got answer new
+
+-- any word of a message's bytes but the last says nothing by itself
+abbrev pub TakesWithin : LogReading → Span → Type 0
+TakesWithin r span =
+    (taken : List ℕ) (word : ℕ) → word < 2 ^ 64 → length taken + 1 < span.words
+    → TakesNext (midway_in r span taken) word turn.Going (midway_in r span (taken ++ word ∷ []))

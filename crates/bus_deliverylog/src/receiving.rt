@@ -1,10 +1,10 @@
 //! A receiver's end of the log.
 
 ghost use Rattle.std.specs.Prelude.{◌≡◌, ◌≢◌, ℕ, ◌+◌, ◌<◌, ◌≤◌};
-ghost use Rattle.std.specs.Prelude.{◌^◌, [], false, IsTrue, IfSome, IfNone, Some, None};
+ghost use Rattle.std.specs.Prelude.{◌^◌, List, [], false, IsTrue, IfSome, IfNone, Some, None};
 ghost use Rattle.bus_batch.specs.Reading.{HasRead, is_between};
 
-use bus_batch::{FrameReader, Item, Piece};
+use bus_batch::{FrameReader, Item, Piece, Span};
 use bus_register::limits::PASSED_ALL;
 use bus_register::{Kind, Op, Reg, SenderNo, cell};
 use std::marker::Model;
@@ -58,7 +58,10 @@ impl Model for LogReader {
 }
 
 impl LogReader {
-    ghost use Rattle.bus_deliverylog.specs.Receiving.{HasReceived, TakesNext};
+    ghost use Rattle.bus_batch.specs.Reading.{words_left};
+    ghost use Rattle.bus_batch.specs.Spans.{IsSpan, HasBytes};
+    ghost use Rattle.bus_deliverylog.specs.Receiving.{HasReceived, HasSeen, TakesNext, TakesWithin};
+    ghost use Rattle.bus_deliverylog.specs.Receiving.{midway_in};
 
     /// At the first word of a log of so many senders. No word is known.
     pub fn new(senders: u64) -> LogReader
@@ -121,6 +124,53 @@ impl LogReader {
         ensures { self.new ≡ record self.old { known = length } }
     {
         self.known = length;
+    }
+
+    /// How many words are left of its frame, where the next is a message's or a mark; else 0.
+    #[inline(always)]
+    pub fn left(&self) -> u64
+        ensures { result ≡ words_left self.now.frames.place }
+    {
+        self.frames.left()
+    }
+
+    /// A message with bytes that the word begins which was found at its place; it may find none.
+    /// Nothing is taken yet.
+    #[inline(always)]
+    pub fn span(&self, told: u64) -> Option<Span>
+        requires { self.now.ended ≡ false }
+        ensures span { IfSome result (IsSpan self.now.frames) }
+        ensures begins { IfSome result
+            (λ span. TakesNext self.now told RecvTurn.Going (midway_in self.now span [])) }
+        ensures within { IfSome result (TakesWithin self.now) }
+    {
+        self.frames.span(told)
+    }
+
+    /// Takes all words of a message, the last of them this, where the item has the bytes of those
+    /// behind its own; makes the item of them, and says whether it did: then the last answers that.
+    /// A bad one changes nothing.
+    #[inline(always)]
+    pub fn take_span(&mut self, span: Span, last: u64, item: &mut Item) -> bool
+        requires span { IsSpan self.old.frames span }
+        requires bytes { (taken : List ℕ) × HasBytes span taken last item.old
+            × HasSeen (midway_in self.old span taken) }
+        requires known { self.old.place + (1 + span.words) ≤ self.old.known }
+        requires going { self.old.ended ≡ false }
+        ensures word { IsTrue result → (taken : List ℕ) → HasBytes span taken last item.old
+            → TakesNext (midway_in self.old span taken) last (RecvTurn.Item item.new) self.new }
+        ensures bad { result ≡ false → (taken : List ℕ) → HasBytes span taken last item.old
+            → TakesNext (midway_in self.old span taken) last RecvTurn.Going
+            (midway_in self.old span taken) }
+        ensures stays { result ≡ false → (self.new ≡ self.old) × (item.new ≡ item.old) }
+        ensures senders { self.new.frames.senders ≡ self.old.frames.senders }
+    {
+        if self.frames.take_span(span, last, item) {
+            self.place += 1 + span.words;
+            true
+        } else {
+            false
+        }
     }
 
     /// Takes the word that was found at its place where that says nothing by itself, and says

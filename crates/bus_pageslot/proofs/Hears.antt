@@ -6,6 +6,8 @@ pub mod Joining
 pub mod Loads
 -- What a receiver's reader keeps beside its seat, and what each load makes of it.
 pub mod ReaderLaws
+-- A receiver reads the words of one message together.
+pub mod Spans
 -- How a receiver goes round the cells of its log.
 pub mod Rounds
 -- Each turn of a receiver adds one answer.

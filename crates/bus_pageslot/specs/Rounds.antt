@@ -1,5 +1,6 @@
 -- How a receiver goes round the cells of its log.
 use Rattle.std.specs.Prelude.{◌≡◌, ◌⊎◌, ℕ, ◌+◌, ◌%◌, ◌<◌, ◌≤◌, ◌^◌}
+use Rattle.bus_batch.specs.Reading.{words_left}
 use Rattle.bus_pageslot.specs.declared.listeners.Listener.{Listener}
 use Rattle.bus_pageslot.specs.declared.listeners.LogCells.{LogCells}
 
@@ -7,6 +8,11 @@ use Rattle.bus_pageslot.specs.declared.listeners.LogCells.{LogCells}
 pub record HasRoom (cells : LogCells) : Type 0 where
   pub some : 0 < cells.log_words
   pub few : cells.log + cells.log_words ≤ 2 ^ 63
+
+-- Its frame was begun: all words of it that are left are known, and no round ends among them.
+pub record HasSpan (l : Listener) : Type 0 where
+  pub some : 0 < words_left l.reader.frames.place
+  pub span : l.reader.place + words_left l.reader.frames.place ≤ l.limit
 
 -- A round of the log begins at a place that lives in the first cell. Those from there up to the
 -- limit have their cells a shift behind them, modulo 2^64. The limit is the length that is known,

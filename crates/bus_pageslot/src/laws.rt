@@ -79,7 +79,7 @@ pub fn seats_keep_promises<Q: Ratifier>()
 /// stand before its place, of all that was published. So of any two who has read less was answered
 /// a beginning of what the other was answered, and from a fork on its maker and the new one were
 /// answered the same, as far as both have read. None is so that has read no word, and was given
-/// something; nor are two that have read as many words, and were given two orders.
+/// an item or a leave mark; nor are two that have read as many words, and were given two orders.
 pub fn receivers_agree<Q: Ratifier>()
     ensures agree { let P = process_by Q.Ratifier in let A = automaton_by Q.Ratifier in
         (plan : Plan) (s : State (Option Page) (View (Sender (Elector Q))))

@@ -3,11 +3,11 @@
 //! costs it a division, nor a test more.
 
 ghost use Rattle.std.specs.Prelude.{◌≡◌, ◌≢◌, ◌⊎◌, ℕ, ◌+◌, ◌%◌, ◌<◌, ◌≤◌, Some, None, true, false};
-ghost use Rattle.std.specs.Prelude.{[]};
+ghost use Rattle.std.specs.Prelude.{[], IsTrue, ◌↔◌};
 ghost use Rattle.bus_automaton.specs.Processes.{TableLayout};
 ghost use Rattle.bus_batch.specs.Reading.{is_between};
 ghost use Rattle.bus_deliverylog.specs.Receiving.{HasReceived};
-ghost use Rattle.bus_pageslot.specs.Rounds.{GoesRound, HasRoom};
+ghost use Rattle.bus_pageslot.specs.Rounds.{GoesRound, HasRoom, HasSpan};
 ghost use Rattle.bus_pageslot.specs.Seats.{HasCells};
 
 use bus_core::limits::PASSED_APART;
@@ -121,6 +121,16 @@ impl Listener {
         } else {
             None
         }
+    }
+
+    /// Its frame was begun, all that is left of it is known, and no round ends in that.
+    #[inline(always)]
+    pub(crate) fn has_span(&self) -> bool
+        requires { GoesRound self.now }
+        ensures { IsTrue result ↔ HasSpan self.now }
+    {
+        let left = self.reader.left();
+        left > 0 && left <= self.limit - self.reader.place()
     }
 
     /// The place of the cell of its place.

@@ -2,6 +2,7 @@
 
 ghost use Rattle.std.specs.Prelude.{◌≡◌, ◌≢◌, ◌+◌, ◌-◌, ◌<◌};
 ghost use Rattle.std.specs.Prelude.{None, Some, false};
+ghost use Rattle.bus_pageslot.specs.Rounds.{HasSpan};
 ghost use Rattle.bus_pageslot.specs.Seats.{IsReceiverView};
 ghost use Rattle.bus_pageslot.specs.Steps.{HasPassed};
 ghost use Rattle.bus_batch.specs.declared.messages.Item.{Item};
@@ -263,6 +264,44 @@ pub(crate) fn hear<Q: Ratifier + Drop>(
     hear_next(words, seat, listener, item, sign)
 }
 
+/// Turns of a receiver that knows its frame to the end, and no round ends in that: those of one
+/// message, the item of which is written in place, or that of another word, taken by itself.
+#[inline(always)]
+fn hear_span<Q: Ratifier + Drop>(
+    words: &Words<Q>,
+    seat: &mut BusSeat<Q>,
+    listener: &mut Listener,
+    item: &mut Item,
+    sign: &mut RecvTurn,
+) -> ItemTurn
+    requires table { seat.old.table_id ≡ words.now.table }
+    requires receiver_view { IsReceiverView seat.old.me seat.old.table_id.words listener.old }
+    requires going { listener.old.reader.ended ≡ false }
+    requires span { HasSpan listener.old }
+    ensures table { seat.new.table_id ≡ seat.old.table_id }
+    ensures receiver_view { IsReceiverView seat.new.me seat.new.table_id.words listener.new }
+    ensures hears { HearsSigned seat.old.me item.old sign.old result item.new sign.new
+        seat.new.me }
+{
+    let at = listener.at();
+    let told = words.load_word_in_turn(seat, at as usize);
+    let Some(span) = listener.reader.span(told) else {
+        return feed_word(&mut listener.reader, told, item, sign);
+    };
+    item.message.clear();
+    for i in 1..span.words {
+        let word = words.load_word_in_turn(seat, (at + i) as usize);
+        item.message.append_word(word);
+    }
+    let last = words.load_word_in_turn(seat, (at + span.words) as usize);
+    item.message.append_word(last);
+    if listener.reader.take_span(span, last, item) {
+        ItemTurn::Item
+    } else {
+        ItemTurn::Going
+    }
+}
+
 /// Turns of a receiver that has not ended: some that take words which say nothing by themselves,
 /// and a last one. An item is written in place, and a head or a leave mark as the sign.
 #[inline(always)]
@@ -281,6 +320,9 @@ pub(crate) fn hear_on<Q: Ratifier + Drop>(
     ensures hears { HearsSigned seat.old.me item.old sign.old result item.new sign.new
         seat.new.me }
 {
+    if listener.has_span() {
+        return hear_span(words, seat, listener, item, sign);
+    }
     if let Some(at) = listener.pass_due() {
         pass(words, seat, listener, at);
         return ItemTurn::Going;

@@ -180,10 +180,10 @@ impl<Q: Ratifier + Drop> Tap<Q> {
             return ItemTurn::End;
         }
         let mut sign = RecvTurn::Going;
-        let mut seat = self.seat.take().unwrap();
-        let turn = hear_on(&bus.words, &mut seat, &mut self.listener, item, &mut sign);
-        self.seat = Some(seat);
-        turn
+        match &mut self.seat {
+            Some(seat) => hear_on(&bus.words, seat, &mut self.listener, item, &mut sign),
+            None => unreachable!(),
+        }
     }
 
     /// As `item_turns`, and a head or a leave mark of the last turn is written as the sign. Any
@@ -198,10 +198,10 @@ impl<Q: Ratifier + Drop> Tap<Q> {
         if self.listener.reader.has_ended() {
             return ItemTurn::End;
         }
-        let mut seat = self.seat.take().unwrap();
-        let turn = hear_on(&bus.words, &mut seat, &mut self.listener, item, sign);
-        self.seat = Some(seat);
-        turn
+        match &mut self.seat {
+            Some(seat) => hear_on(&bus.words, seat, &mut self.listener, item, sign),
+            None => unreachable!(),
+        }
     }
 
     /// Loads the length, in words, and gives it: it knows the log up to it from then on.
