@@ -1,5 +1,6 @@
 -- The one automaton begins as it should.
-use Rattle.std.proofs.Common.{◌≡◌, ℕ, zero, suc, ◌+◌, ◌<◌, Option, Some, None, List, [], ◌∷◌, ◌++◌}
+use Rattle.std.proofs.Common.{◌≤◌, ◌≡◌, ℕ, zero, suc, ◌+◌, ◌<◌, Option, Some, None, List, [], ◌∷◌}
+use Rattle.std.proofs.Common.{◌++◌}
 use Rattle.std.proofs.Common.{
   false,
   length,
@@ -32,10 +33,9 @@ use Rattle.bus_batch.proofs.Feeding.{reads_none}
 use Rattle.bus_batch.proofs.Taking.{reading}
 use Rattle.bus_batch.specs.declared.readers.Place.TheVariants.{Between}
 use Rattle.bus_deliverylog.specs.Receiving.{Receiving}
-use Rattle.bus_world.specs.Log.{first_numbers}
+use Rattle.bus_world.specs.Log.{first_numbers, ring_numbers}
 use Rattle.bus_world.specs.Starting.{IsNewReceiver}
 use Rattle.bus_world.specs.World.{IsLayout, AreBases, first_page, no_stops}
-use Rattle.bus_world.specs.declared.limits.TheConstants.{FIRST_RING_NUMBERS}
 use Rattle.bus_machine.specs.Machine.{passed_by}
 use Rattle.bus_automaton.specs.OneAutomaton.{IsResting, bus_of, passed_of}
 use Rattle.bus_automaton.specs.OneProcess.{process_of}
@@ -95,7 +95,7 @@ listener x reuse r = record {
   gone = false;
   known = 0;
   place = 0;
-  frames = reading x.senders 0 (replicate 256 false) Between [];
+  frames = reading 16 x.senders 0 (replicate 256 false) Between [];
   ended = false;
 }
 
@@ -148,7 +148,7 @@ is_new x reuse r = record {
   known = refl;
   place = refl;
   going = refl;
-  read = reads_none x.senders (replicate 256 false) [] refl refl;
+  read = reads_none 16 x.senders (replicate 256 false) [] refl refl;
   passed_is = refl;
   unpassed = refl;
   stays = refl;
@@ -165,27 +165,29 @@ passed_none x reuse r = refl
 
 -- the numbers of messages begin far below their range
 counted : {E : Type 0} (X : Election E) (x : Layout) (reuse : Option ℕ) (bases : List ℕ)
-    → AreBases bases → (p : ℕ)
+    → x.batch ≤ 16 → AreBases bases → (p : ℕ)
     → IsCounted (process_of X) (new_sender x p reuse (slice_index bases p))
-counted X x None bases are p = record {
+counted X x None bases few are p = record {
   first = (let low = are.low p in omega arith);
   few = omega arith;
+  limit = refl;
 }
-counted X x (Some rows) bases are p = record {
+counted X x (Some rows) bases few are p = record {
   first = (let low = are.low p in omega arith);
   few = omega arith;
+  limit = refl;
 }
 
-ring_bases : (passers : ℕ) (bases : List ℕ)
-    → ((s : ℕ) → slice_index bases s < first_numbers passers) → 0 < passers → (s : ℕ)
-    → slice_index bases s < FIRST_RING_NUMBERS
-ring_bases zero bases low some s = absurd (omega arith)
-ring_bases (suc passers) bases low some s = low s
+low_in_rings : (passers batch : ℕ) (bases : List ℕ)
+    → ((s : ℕ) → slice_index bases s < first_numbers passers batch) → 0 < passers → (s : ℕ)
+    → slice_index bases s < ring_numbers batch
+low_in_rings zero batch bases low some s = absurd (omega arith)
+low_in_rings (suc passers) batch bases low some s = low s
 
 -- it begins with all at their starts
 pub opens : {E : Type 0} (X : Election E) (x : Layout) (reuse : Option ℕ) (bases : List ℕ)
     → IsLayout x → (reuse ≡ None → x.passers ≡ 0) → HasRows reuse → AreBases bases
-    → ((s : ℕ) → slice_index bases s < first_numbers x.passers)
+    → ((s : ℕ) → slice_index bases s < first_numbers x.passers x.batch)
     → Opens (process_of X) (bus_of X x reuse bases)
 opens {E} X x reuse bases ok apart has are low =
     let m : Machine E = record {
@@ -217,7 +219,7 @@ opens {E} X x reuse bases ok apart has are low =
               (is_new x reuse r);
           apart = apart;
           many = λ r v e. inr (listens x reuse x.passers r v e).1;
-          ring_bases = ring_bases x.passers bases low;
+          ring_bases = low_in_rings x.passers x.batch bases low;
           stopped = refl;
           owners = refl;
         });
@@ -232,5 +234,5 @@ opens {E} X x reuse bases ok apart has are low =
       sender_trail = λ p. refl;
       passed = λ r below.
           ap passed_of (audience_has x reuse x.passers r below) ∙ passed_none x reuse r;
-      counted = counted X x reuse bases are;
+      counted = counted X x reuse bases ok.batch.1 are;
     }

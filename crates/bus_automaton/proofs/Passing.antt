@@ -239,7 +239,10 @@ module _ {E : Type 0} (X : Election E) (P : Protocol E (Unit {0}) ℕ) (x : Layo
       going = rests.going;
       place = refl;
       ready = record {
-        sound = subst (λ q. IsSound q v.frames.bytes) (sym rests.between) rests.nothing;
+        sound = subst (λ q. IsSound v.frames.most q v.frames.bytes) (sym rests.between)
+            rests.nothing;
+        limit = subst (λ n. (1 ≤ n) × (n ≤ 16))
+            (sym (f.reads r v it.there).1.receives.has_read.limit) (omega arith, omega arith);
         named = subst (λ q. IsNamed q v.frames.left)
             (sym rests.between) tt;
       };
@@ -274,7 +277,8 @@ module _ {E : Type 0} (X : Election E) (P : Protocol E (Unit {0}) ℕ) (x : Layo
         going = a.going;
         passed = gone_to.passed ∙ sym a.place;
         between = gone_to.between;
-        nothing = subst (λ q. IsSound q a.receiver.frames.bytes) gone_to.between a.ready.sound;
+        nothing = subst (λ q. IsSound a.receiver.frames.most q a.receiver.frames.bytes)
+            gone_to.between a.ready.sound;
       }
 
       pub passes : PassesIn bus z r target (Some target)

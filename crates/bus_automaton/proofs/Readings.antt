@@ -33,7 +33,7 @@ use Rattle.bus_batch.proofs.Bodies.{takes_empty, takes_begun, takes_end, takes_l
 use Rattle.bus_batch.proofs.Bytes.{data_bytes, padded_len, rest_zero, spread_len, takes_last}
 use Rattle.bus_batch.proofs.Bytes.{takes_part}
 use Rattle.bus_batch.proofs.Fillings.{First, first}
-use Rattle.bus_batch.proofs.Heads.{body_some, body_most, takes_head}
+use Rattle.bus_batch.proofs.Heads.{body_has, body_within, takes_head}
 use Rattle.bus_batch.proofs.Taking.{reading}
 use Rattle.bus_batch.proofs.WordLaws.{words_most}
 
@@ -47,7 +47,8 @@ IsNamed place.Bad gone = Unit {0}
 
 -- it goes on with each word that it awaits
 pub record IsReady (r : Reading) : Type 0 where
-  pub sound : IsSound r.place r.bytes
+  pub sound : IsSound r.most r.place r.bytes
+  pub limit : (1 ≤ r.most) × (r.most ≤ 16)
   pub named : IsNamed r.place r.left
 
 -- an end mark was read
@@ -68,16 +69,16 @@ pub record GoesOn (old : Reading) (word : ℕ) : Type 0 where
   pub senders : new.senders ≡ old.senders
 
 -- the place after a message
-pub record After (owner : SenderNo) (left room : ℕ) (gone : List Bool) : Type 0 where
+pub record After (most : ℕ) (owner : SenderNo) (left room : ℕ) (gone : List Bool) : Type 0 where
   pub place : Place
   pub is : IsAfter owner left room place
-  pub sound : IsSound place []
+  pub sound : IsSound most place []
   pub named : IsNamed place gone
   pub over : is_over place ≡ false
 
-after : (owner : SenderNo) (left room : ℕ) (gone : List Bool) → left ≤ 8 * room → room ≤ 16
-    → owner.0 < length gone → After owner left room gone
-after owner left room gone fillable few named = elim (cases_lt 0 left) [
+after : (most : ℕ) (owner : SenderNo) (left room : ℕ) (gone : List Bool) → left ≤ 8 * room
+    → room ≤ most → owner.0 < length gone → After most owner left room gone
+after most owner left room gone fillable few named = elim (cases_lt 0 left) [
   | inl some ↦ record {
     place = place.Body owner left room;
     is = record { none = λ e. absurd (omega arith); some = λ s. refl };
@@ -112,27 +113,28 @@ data_low more small =
     let g = each 6 0 (omega arith) in
     let h = each 7 0 (omega arith) in omega arith
 
-module _ (senders least : ℕ) (gone : List Bool) (bytes : List ℕ) (word : ℕ) (rest : List ℕ)
+module _ (most senders least : ℕ) (gone : List Bool) (bytes : List ℕ) (word : ℕ) (rest : List ℕ)
     (pieces : List (Option Piece)) where
   abbrev at : Place → Reading
-  at p = reading senders least gone p bytes
+  at p = reading most senders least gone p bytes
 
   -- at a head
-  heads : IsReady (at place.Between) → (frames : List Frame) → MayFollow senders least gone frames
+  heads : IsReady (at place.Between) → (frames : List Frame) → MayFollow most senders least gone
+      frames
       → word ∷ rest ≡ log_words frames → GoesOn (at place.Between) word
   heads ready [] may words = absurd (cc)
   heads ready (f ∷ frames) may words =
       let lawful = may.0.0 in
-      let some = body_some f.body lawful.body in
-      let most = body_most f.body lawful.body in
+      let some = body_has most f.body lawful.body in
+      let size = body_within most f.body ready.limit.0 lawful.body in
       let stays : slice_get gone f.owner.0 ≡ Some false =
       All-head (λ z. slice_get gone z.owner.0 ≡ Some false) f frames may.1 in
       record {
         found = Some (piece.Head f.tenure f.owner);
-        new = reading senders (f.tenure + 1) gone
-            (place.Body f.owner (length (body_words f.body)) 16) bytes;
+        new = reading most senders (f.tenure + 1) gone
+            (place.Body f.owner (length (body_words f.body)) most) bytes;
         over = refl;
-        takes = takes_head senders least word gone bytes bytes (record {
+        takes = takes_head most senders least word gone bytes bytes ready.limit (record {
           tenure = f.tenure;
           owner = f.owner;
           count = length (body_words f.body);
@@ -141,12 +143,13 @@ module _ (senders least : ℕ) (gone : List Bool) (bytes : List ℕ) (word : ℕ
           owner = lawful.owner;
           owner_bits = lawful.owner_bits;
           some = some;
-          most = most;
+          fillable = size;
           late = may.0.1;
           tenure = lawful.tenure;
         }) stays;
         ready = record {
           sound = (ready.sound, some, omega arith, omega arith);
+          limit = ready.limit;
           named = slice_get_within gone f.owner.0 false stays;
         };
         senders = refl {a = senders};
@@ -155,28 +158,28 @@ module _ (senders least : ℕ) (gone : List Bool) (bytes : List ℕ) (word : ℕ
   module _ (owner : SenderNo) (left room : ℕ) (ready : IsReady (at (place.Body owner left room)))
     where
       -- at a message
-      begins : Fills senders least gone owner left room (word ∷ rest) pieces
+      begins : Fills most senders least gone owner left room (word ∷ rest) pieces
           → GoesOn (at (place.Body owner left room)) word
       begins f =
           let some = ready.sound.1 in
           let few = ready.sound.3 in
-          let g : First senders least gone owner left room word rest pieces =
-          first senders least gone owner left room word rest pieces some f in
+          let g : First most senders least gone owner left room word rest pieces =
+          first most senders least gone owner left room word rest pieces some f in
           let size : ℕ = length g.message.message in
           let more = g.room_more in
           let within : 1 + data_len size ≤ left = g.within in
           let short = g.lawful.1.0 in
           let fillable : left - (1 + data_len size) ≤ 8 * (room - 1) =
-          let most = words_most g.fills.messages g.fills.each in
+          let filled = words_most g.fills.messages g.fills.each in
           let number = g.fills.few in
           let long = g.fills.long in omega arith in
           elim (cases_lt 0 size) [
             | inl long ↦ record {
               found = None;
-              new = reading senders least gone
+              new = reading most senders least gone
                   (place.Data owner (left - 1) (room - 1) g.message.number size) [];
               over = refl;
-              takes = takes_begun senders least word gone owner left room bytes
+              takes = takes_begun most senders least word gone owner left room bytes
                   (record { len = size; number = g.message.number }) (record {
                     is = g.word_is;
                     len = g.lawful.1.0;
@@ -185,6 +188,7 @@ module _ (senders least : ℕ) (gone : List Bool) (bytes : List ℕ) (word : ℕ
                   more few fillable long;
               ready = record {
                 sound = (omega arith, omega arith, omega arith, omega arith, omega arith, refl);
+                limit = ready.limit;
                 named = ready.named;
               };
               senders = refl {a = senders};
@@ -192,8 +196,9 @@ module _ (senders least : ℕ) (gone : List Bool) (bytes : List ℕ) (word : ℕ
             | inr short ↦
                 let empty : size ≡ 0 = omega arith in
                 let none : data_len size ≡ 0 = ap data_len empty in
-                let a : After owner (left - 1) (room - 1) gone =
-                after owner (left - 1) (room - 1) gone (omega arith) (omega arith) ready.named in
+                let a : After most owner (left - 1) (room - 1) gone =
+                after most owner (left - 1) (room - 1) gone (omega arith)
+                (omega arith) ready.named in
                 record {
                   found =
                       Some
@@ -202,54 +207,55 @@ module _ (senders least : ℕ) (gone : List Bool) (bytes : List ℕ) (word : ℕ
                         number = g.message.number;
                         message = [];
                       }));
-                  new = reading senders least gone a.place [];
+                  new = reading most senders least gone a.place [];
                   over = a.over;
-                  takes = takes_empty senders least word gone owner left room bytes
+                  takes = takes_empty most senders least word gone owner left room bytes
                       (record { len = size; number = g.message.number }) (record {
                         is = g.word_is;
                         len = g.lawful.1.0;
                         number = g.lawful.0;
                       }) some within
                       more few fillable a.place [] empty a.is;
-                  ready = record { sound = a.sound; named = a.named };
+                  ready = record { sound = a.sound; limit = ready.limit; named = a.named };
                   senders = refl {a = senders};
                 }
           ]
 
       -- at an end
-      ends : EndsAll left room (word ∷ rest) pieces → GoesOn (at (place.Body owner left room)) word
+      ends : EndsAll most left room (word ∷ rest) pieces → GoesOn (at (place.Body owner left room))
+          word
       ends e = record {
         found = Some piece.End;
-        new = reading senders least gone place.Ended bytes;
+        new = reading most senders least gone place.Ended bytes;
         over = refl;
-        takes = takes_end senders least word gone owner left room bytes bytes ready.sound.1
+        takes = takes_end most senders least word gone owner left room bytes bytes ready.sound.1
             (let x = e.words_are in cc) e.alone e.fresh;
-        ready = record { sound = tt; named = tt };
+        ready = record { sound = tt; limit = ready.limit; named = tt };
         senders = refl {a = senders};
       }
 
       -- at a leave
-      leaves : LeavesNext senders least gone owner left room (word ∷ rest) pieces
+      leaves : LeavesNext most senders least gone owner left room (word ∷ rest) pieces
           → GoesOn (at (place.Body owner left room)) word
       leaves e = record {
         found = Some (piece.Leave owner);
-        new = reading senders least (slice_set gone owner.0 true) place.Between [];
+        new = reading most senders least (slice_set gone owner.0 true) place.Between [];
         over = refl;
-        takes = takes_leave senders least word gone owner left room bytes [] ready.sound.1
+        takes = takes_leave most senders least word gone owner left room bytes [] ready.sound.1
             (let x = e.words_are in cc) e.alone e.fresh ready.named;
-        ready = record { sound = refl; named = tt };
+        ready = record { sound = refl; limit = ready.limit; named = tt };
         senders = refl {a = senders};
       }
 
   -- within a message
   module _ (owner : SenderNo) (left room number len : ℕ)
       (ready : IsReady (at (place.Data owner left room number len)))
-      (c : Completes senders least gone owner left room number len bytes (word ∷ rest) pieces)
+      (c : Completes most senders least gone owner left room number len bytes (word ∷ rest) pieces)
     where
       goes_data : GoesOn (at (place.Data owner left room number len)) word
       goes_data =
           let short = ready.sound.0 in
-          let most = ready.sound.1 in
+          let length_few = ready.sound.1 in
           let within = ready.sound.2 in
           let fillable = ready.sound.3 in
           let few = ready.sound.4 in
@@ -273,10 +279,12 @@ module _ (senders least : ℕ) (gone : List Bool) (bytes : List ℕ) (word : ℕ
             | inl more ↦
                 record {
                   found = None;
-                  new = reading senders least gone (place.Data owner (left - 1) room number len)
+                  new = reading most senders least gone (place.Data owner
+                      (left - 1) room number len)
                       (bytes ++ take k (to_be_bytes w64 word));
                   over = refl;
-                  takes = takes_part senders least word gone owner left room number len k bytes fits
+                  takes = takes_part most senders least word gone owner left room number len k
+                      bytes fits
                       short within fillable few refl none more;
                   ready = record {
                     sound = (
@@ -287,13 +295,14 @@ module _ (senders least : ℕ) (gone : List Bool) (bytes : List ℕ) (word : ℕ
                       omega arith,
                       omega arith,
                     );
+                    limit = ready.limit;
                     named = ready.named;
                   };
                   senders = refl {a = senders};
                 }
             | inr whole ↦
-                let a : After owner (left - 1) room gone =
-                after owner (left - 1) room gone (omega arith) (omega arith) ready.named in
+                let a : After most owner (left - 1) room gone =
+                after most owner (left - 1) room gone (omega arith) (omega arith) ready.named in
                 record {
                   found =
                       Some
@@ -302,39 +311,40 @@ module _ (senders least : ℕ) (gone : List Bool) (bytes : List ℕ) (word : ℕ
                         number = number;
                         message = bytes ++ take k (to_be_bytes w64 word);
                       }));
-                  new = reading senders least gone a.place [];
+                  new = reading most senders least gone a.place [];
                   over = a.over;
-                  takes = takes_last senders least word gone owner left room number len k bytes fits
+                  takes = takes_last most senders least word gone owner left room number len k
+                      bytes fits
                       short within fillable few refl none a.place [] (omega arith) a.is;
-                  ready = record { sound = a.sound; named = a.named };
+                  ready = record { sound = a.sound; limit = ready.limit; named = a.named };
                   senders = refl {a = senders};
                 }
           ]
 
 -- wherever it stands
-goes_at : (senders least : ℕ) (gone : List Bool) (p : Place) (bytes : List ℕ) (word : ℕ)
+goes_at : (most senders least : ℕ) (gone : List Bool) (p : Place) (bytes : List ℕ) (word : ℕ)
     (rest : List ℕ) (pieces : List (Option Piece))
-    → IsReady (reading senders least gone p bytes)
-    → Awaits (reading senders least gone p bytes) (word ∷ rest) pieces
-    → GoesOn (reading senders least gone p bytes) word
-goes_at senders least gone place.Between bytes word rest pieces ready a =
-    heads senders least gone bytes word rest pieces ready a.0 a.1 a.2
-goes_at senders least gone (place.Body owner left room) bytes word rest pieces ready (inl f) =
-    begins senders least gone bytes word rest pieces owner left room ready f
-goes_at senders least gone (place.Body owner left room) bytes word rest pieces ready
+    → IsReady (reading most senders least gone p bytes)
+    → Awaits (reading most senders least gone p bytes) (word ∷ rest) pieces
+    → GoesOn (reading most senders least gone p bytes) word
+goes_at most senders least gone place.Between bytes word rest pieces ready a =
+    heads most senders least gone bytes word rest pieces ready a.0 a.1 a.2
+goes_at most senders least gone (place.Body owner left room) bytes word rest pieces ready (inl f) =
+    begins most senders least gone bytes word rest pieces owner left room ready f
+goes_at most senders least gone (place.Body owner left room) bytes word rest pieces ready
     (inr (inl e)) =
-    ends senders least gone bytes word rest pieces owner left room ready e
-goes_at senders least gone (place.Body owner left room) bytes word rest pieces ready
+    ends most senders least gone bytes word rest pieces owner left room ready e
+goes_at most senders least gone (place.Body owner left room) bytes word rest pieces ready
     (inr (inr e)) =
-    leaves senders least gone bytes word rest pieces owner left room ready e
-goes_at senders least gone (place.Data owner left room number len) bytes word rest pieces
+    leaves most senders least gone bytes word rest pieces owner left room ready e
+goes_at most senders least gone (place.Data owner left room number len) bytes word rest pieces
     ready c =
-    goes_data senders least gone bytes word rest pieces owner left room number len ready c
-goes_at senders least gone place.Ended bytes word rest pieces ready a =
+    goes_data most senders least gone bytes word rest pieces owner left room number len ready c
+goes_at most senders least gone place.Ended bytes word rest pieces ready a =
     absurd (let x : word ∷ rest ≡ [] = a.0 in cc)
-goes_at senders least gone place.Bad bytes word rest pieces ready a = absurd a
+goes_at most senders least gone place.Bad bytes word rest pieces ready a = absurd a
 
 pub goes_on : (r : Reading) (word : ℕ) (rest : List ℕ) (pieces : List (Option Piece))
     → IsReady r → Awaits r (word ∷ rest) pieces → GoesOn r word
 goes_on r word rest pieces ready a =
-    goes_at r.senders r.least r.left r.place r.bytes word rest pieces ready a
+    goes_at r.most r.senders r.least r.left r.place r.bytes word rest pieces ready a

@@ -3,6 +3,7 @@
 use Rattle.std.proofs.Common.{
   ◌≡◌,
   ℕ,
+  ◌<◌,
   ◌≤◌,
   Bool,
   true,
@@ -26,6 +27,7 @@ use Rattle.bus_register.specs.declared.limits.TheConstants.{MOST_RECEIVERS}
 use Rattle.bus_automaton.specs.Buses.{passers_in}
 use Rattle.bus_machine.specs.Promise.{HasRows}
 use Rattle.bus_register.specs.Protocol.{Protocol}
+use Rattle.bus_world.specs.Log.{first_numbers}
 use Rattle.bus_world.specs.World.{IsLayout}
 use Rattle.bus_world.specs.declared.shapes.MakeFault.{MakeFault}
 use Rattle.bus_world.specs.declared.shapes.MakeFault.TheVariants as make
@@ -85,12 +87,14 @@ is_layout P shape None passers h few = record {
   rows = (let z = h.rows.1 in omega arith);
   capacity = (let z = h.log_words.1 in omega arith);
   passers = few;
+  batch = (omega arith, omega arith);
 }
 is_layout P shape (Some rows) passers h few = record {
   senders = h.senders.1;
   rows = omega arith;
   capacity = (let z = h.log_words.1 in omega arith);
   passers = few;
+  batch = (omega arith, omega arith);
 }
 
 -- ---- passed places
@@ -112,6 +116,18 @@ pub as_planned : {S : Type 0} (P : Protocol S Bool Verdict) (shape : Shape) (reu
     (passers : ℕ) → (layout_passed P shape reuse passers).passers ≡ passers
 as_planned P shape None passers = refl
 as_planned P shape (Some rows) passers = refl
+
+pub batch_planned : {S : Type 0} (P : Protocol S Bool Verdict) (shape : Shape) (reuse : Option ℕ)
+    (passers : ℕ) → (layout_passed P shape reuse passers).batch ≡ 16
+batch_planned P shape None passers = refl
+batch_planned P shape (Some rows) passers = refl
+
+pub planned_low : {S : Type 0} (P : Protocol S Bool Verdict) (shape : Shape) (reuse : Option ℕ)
+    (passers n : ℕ) → n < first_numbers passers 16
+    → n < first_numbers (layout_passed P shape reuse passers).passers
+    (layout_passed P shape reuse passers).batch
+planned_low P shape None passers n low = low
+planned_low P shape (Some rows) passers n low = low
 
 pub has_rows : (shape : Shape) (reuse : Option ℕ) → IsServed shape reuse → ShapeOf shape reuse
     → HasRows reuse

@@ -248,11 +248,14 @@ module _ {E : Type 0} (X : Election E) (P : Protocol E (Unit {0}) ℕ) (x : Layo
         m.home framing.owners framing.frames p framing.cores framing.sending v.core
         (framing.core_of p v at) in
         let now = ap (λ (q : Pending). q.first) (queue_is v.core.queue v.reuse) in
+        let limit = ap (λ (q : Pending). q.limit) (queue_is v.core.queue v.reuse) in
+        let own = part.limit in
         let few = part.queue.few in
         let same = ap length (messages_are v.core.queue v.reuse) in
         record {
           first = omega arith;
           few = omega arith;
+          limit = limit ∙ own ∙ sym (ap (λ (l : Layout). l.batch) part.layout);
         }
 
     -- it is who it is

@@ -476,7 +476,7 @@ module _ {E : Type 0} (X : Election E) (P : Protocol E (Unit {0}) ℕ) (old : Ma
             (let e = a.place in omega arith)
             (ap (slice_get (log_pieces frames)) (sym (length-take v.place (log_words frames)
             ∙ (let l = in_log in omega arith)))
-            ∙ gives_piece old.layout.senders (take v.place (log_words frames))
+            ∙ gives_piece _ old.layout.senders (take v.place (log_words frames))
             (take v.place (log_pieces frames)) got v.frames goes.new had goes.found goes.takes
             frames
             rest lawful split)
@@ -491,11 +491,11 @@ module _ {E : Type 0} (X : Election E) (P : Protocol E (Unit {0}) ℕ) (old : Ma
             at_word = λ i ne ws ps h. good_word (reading_of v) (reading_of v) refl goes.new got
                 goes.found (is_end goes.found)
                 (λ xs qs k.
-                has_read v.frames.senders xs qs got v.frames goes.new k goes.found goes.takes
+                has_read _ v.frames.senders xs qs got v.frames goes.new k goes.found goes.takes
                 goes.ready.sound)
                 goes.senders refl (turn_of goes.found) ws ps h
                 (λ xs qs k.
-                gives_piece v.frames.senders xs qs got v.frames goes.new k goes.found goes.takes)
+                gives_piece _ v.frames.senders xs qs got v.frames goes.new k goes.found goes.takes)
                 refl;
             registers = λ i. refl;
             keeps = (refl, refl, refl, refl, refl);
@@ -532,13 +532,15 @@ module _ {E : Type 0} (X : Election E) (P : Protocol E (Unit {0}) ℕ) (old : Ma
         by : (p : Place) → v.frames.place ≡ p → is_between p ≡ true
         by place.Between e = refl
         by (place.Body owner left room) e = absurd
-            (torn_in_body old.layout.senders (take v.place (log_words frames))
-            (take v.place (log_pieces frames)) v.frames.senders v.frames.least v.frames.left
-            v.frames.place v.frames.bytes v.frames refl had owner left room e a.ready.sound is_log)
+            (torn_in_body _ old.layout.senders (take v.place (log_words frames))
+            (take v.place (log_pieces frames)) v.frames.most v.frames.senders v.frames.least
+            v.frames.left v.frames.place v.frames.bytes v.frames refl had owner left room e
+            a.ready.sound is_log)
         by (place.Data owner left room number len) e = absurd
-            (torn_in_data old.layout.senders (take v.place (log_words frames))
-            (take v.place (log_pieces frames)) v.frames.senders v.frames.least v.frames.left
-            v.frames.place v.frames.bytes v.frames refl had owner left room number len e is_log)
+            (torn_in_data _ old.layout.senders (take v.place (log_words frames))
+            (take v.place (log_pieces frames)) v.frames.most v.frames.senders v.frames.least
+            v.frames.left v.frames.place v.frames.bytes v.frames refl had owner left room number
+            len e is_log)
         by place.Ended e = absurd (true≢false (sym (ap is_over e) ∙ a.over))
         by place.Bad e =
             let c = had.begins in

@@ -3,6 +3,7 @@
 -- proved, by their laws alone.
 use Rattle.std.specs.Prelude.{ℕ, ◌<◌, Bool, true, false, Option, Some, None, slice_index}
 use Rattle.bus_register.specs.declared.kinds.Kind.{Kind}
+use Rattle.bus_register.specs.declared.limits.TheConstants.{MOST_MESSAGES}
 use Rattle.bus_register.specs.declared.registers.Op.{Op}
 use Rattle.bus_register.specs.Protocol.{Protocol}
 use Rattle.bus_adoptcommit.specs.declared.verdicts.Verdict.{Verdict}
@@ -88,7 +89,8 @@ ring_plan shape page = record {
 -- its numbers have room: for a whole log, or where that is a ring for all tenures
 abbrev pub AreBasesOf : Plan → Type 0
 AreBasesOf plan =
-    AreBases plan.bases × ((s : ℕ) → slice_index plan.bases s < first_numbers (plan_passers plan))
+    AreBases plan.bases
+    × ((s : ℕ) → slice_index plan.bases s < first_numbers (plan_passers plan) MOST_MESSAGES)
 
 -- a bus of this plan is served: its sizes are, rows that are used again are as many as its shape
 -- has, and its numbers have room

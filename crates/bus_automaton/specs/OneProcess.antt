@@ -28,6 +28,7 @@ table_layout_by x reuse = record {
   capacity = x.capacity;
   passed = passers_place x reuse;
   passers = x.passers;
+  batch = x.batch;
 }
 
 -- ---- where it stands

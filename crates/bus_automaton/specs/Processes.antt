@@ -4,7 +4,7 @@
 use Rattle.std.specs.Prelude.{◌≡◌, ℕ, ◌+◌, ◌*◌, ◌%◌, ◌≤◌, ◌<◌, Bool, true, false, Option, Some}
 use Rattle.std.specs.Prelude.{List, length, slice_index}
 use Rattle.bus_register.specs.declared.kinds.Kind.{Kind}
-use Rattle.bus_register.specs.declared.limits.TheConstants.{MOST_MESSAGES, NUMBERS}
+use Rattle.bus_register.specs.declared.limits.TheConstants.{NUMBERS}
 use Rattle.bus_register.specs.declared.registers.Op.{Op}
 use Rattle.bus_batch.specs.Batches.{Pending}
 use Rattle.bus_batch.specs.declared.messages.Mark.{Mark}
@@ -26,6 +26,8 @@ pub record TableLayout : Type 0 where
   -- where passed places begin, and how many there are: none where no word of the log is used again
   pub passed : ℕ
   pub passers : ℕ
+  -- how many messages a batch has at most
+  pub batch : ℕ
 
 abbrev pub no_table_layout : TableLayout
 no_table_layout = record {
@@ -35,6 +37,7 @@ no_table_layout = record {
   capacity = 0;
   passed = 0;
   passers = 0;
+  batch = 0;
 }
 
 -- which word is the passed place of receiver r
@@ -87,8 +90,10 @@ pub record Process (C : Type 0) : Type 0 where
 -- the numbers of a sender's messages stay within their range, also that of a message more where its
 -- batch is full
 pub record IsCounted {C : Type 0} (P : Process C) (c : C) : Type 0 where
-  pub first : (P.queue c).first + MOST_MESSAGES < NUMBERS
-  pub few : length (P.queue c).messages ≤ MOST_MESSAGES
+  pub first : (P.queue c).first + (P.queue c).limit < NUMBERS
+  pub few : length (P.queue c).messages ≤ (P.queue c).limit
+  -- which is the bus's
+  pub limit : (P.queue c).limit ≡ (P.table_layout c).batch
 
 -- ---- a turn, part by part
 -- The parts of a turn are the whole turn: c has taken its step, is s once it was told what that

@@ -1,7 +1,7 @@
 //! What threads may go by holds of the one process and of the one automaton.
 
 ghost use Rattle.std.specs.Prelude.{◌≡◌, ◌≢◌, ℕ, ◌<◌, ◌≤◌, Option, None, false, List, slice_index};
-ghost use Rattle.bus_register.specs.declared.limits.TheConstants.{MOST_SENDERS};
+ghost use Rattle.bus_register.specs.declared.limits.TheConstants.{MOST_MESSAGES, MOST_SENDERS};
 ghost use Rattle.bus_core.specs.Senders.{Sender};
 ghost use Rattle.bus_core.specs.Telling.{FeedTells};
 ghost use Rattle.bus_tenure.specs.Elections.{Elector, election_of, layout_with};
@@ -39,9 +39,9 @@ pub fn process_is_lawful<Q: Ratifier>()
 /// each place after it, the word that was published there. Where a frame begins it may pass.
 pub fn automaton_is_lawful<Q: Ratifier>()
     ensures { let X = election_of Q.Ratifier in
-        (senders rounds rows capacity passers : ℕ) (reuse : Option ℕ) (bases : List ℕ)
+        (senders rounds rows capacity passers batch : ℕ) (reuse : Option ℕ) (bases : List ℕ)
         → (reuse ≡ None → passers ≡ 0) → AutomatonLaws (process_of X)
-        (bus_of X (layout_with Q.protocol senders rounds rows capacity passers) reuse bases) }
+        (bus_of X (layout_with Q.protocol senders rounds rows capacity passers batch) reuse bases) }
 {
     election_is_lawful::<Q>();
 }
@@ -50,11 +50,11 @@ pub fn automaton_is_lawful<Q: Ratifier>()
 /// at their starts, and nothing passed.
 pub fn automaton_opens<Q: Ratifier>()
     ensures { let X = election_of Q.Ratifier in
-        (senders rounds rows capacity passers : ℕ) (reuse : Option ℕ) (bases : List ℕ)
-        → IsLayout (layout_with Q.protocol senders rounds rows capacity passers)
+        (senders rounds rows capacity passers batch : ℕ) (reuse : Option ℕ) (bases : List ℕ)
+        → IsLayout (layout_with Q.protocol senders rounds rows capacity passers batch)
         → (reuse ≡ None → passers ≡ 0) → HasRows reuse → AreBases bases
-        → ((s : ℕ) → slice_index bases s < first_numbers passers) → Opens (process_of X)
-        (bus_of X (layout_with Q.protocol senders rounds rows capacity passers) reuse bases) }
+        → ((s : ℕ) → slice_index bases s < first_numbers passers batch) → Opens (process_of X)
+        (bus_of X (layout_with Q.protocol senders rounds rows capacity passers batch) reuse bases) }
 {}
 
 /// Threads may go by a sender of any ratifier, and by a bus of any plan. What an answer tells once
@@ -63,7 +63,8 @@ pub fn automaton_opens<Q: Ratifier>()
 /// for want of memory each that is served and no other: so with another fault none is that is
 /// served. A number of its senders fits a byte, and its numbers leave room for a whole log, or
 /// where that is a ring for all tenures; with the numbers of its plan the bus begins. It has a
-/// passed place for each receiver where its log is a ring, and else none.
+/// passed place for each receiver where its log is a ring, and else none, and 16 messages are the
+/// most of a batch.
 pub fn threads_may_go_by<Q: Ratifier>()
     ensures process { ProcessLaws (process_by Q.Ratifier) }
     ensures tells { let X = election_of Q.Ratifier in
@@ -82,9 +83,11 @@ pub fn threads_may_go_by<Q: Ratifier>()
         → MayGoOn (plan_passers plan) page → Refuses plan page NoMemory }
     ensures few_senders { (plan : Plan) → Serves plan → plan.shape.senders ≤ MOST_SENDERS }
     ensures numbers { (plan : Plan) (s : ℕ) → Serves plan
-        → slice_index plan.bases s < first_numbers (plan_passers plan) }
+        → slice_index plan.bases s < first_numbers (plan_passers plan) MOST_MESSAGES }
     ensures passers { (plan : Plan)
         → (automaton_by Q.Ratifier plan).table_layout.passers ≡ plan_passers plan }
+    ensures batch { (plan : Plan)
+        → (automaton_by Q.Ratifier plan).table_layout.batch ≡ MOST_MESSAGES }
     ensures bases { (plan : Plan) → (automaton_by Q.Ratifier plan).bases ≡ plan.bases }
     ensures automaton { (plan : Plan)
         → AutomatonLaws (process_by Q.Ratifier) (automaton_by Q.Ratifier plan) }

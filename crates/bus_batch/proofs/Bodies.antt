@@ -30,26 +30,47 @@ no_messages : (ms : List Numbered) → length (flat_map message_words ms) ≡ 0 
 no_messages [] e = refl
 no_messages (m ∷ ms) e = absurd (let l = words_least (m ∷ ms) in omega arith)
 
-module _ (senders least : ℕ) (gone : List Bool) (owner : SenderNo) (left room : ℕ) (p : Place)
+module _ (most senders least : ℕ) (gone : List Bool) (owner : SenderNo) (left room : ℕ) (p : Place)
     (bytes : List ℕ) (after : IsAfter owner left room p) where
-  pub after_leads : room < 16 → (rest : List ℕ) (pieces : List (Option Piece))
-      → Awaits (record { senders = senders; least = least; left = gone; place = p; bytes = bytes })
-      rest pieces → Fills senders least gone owner left room rest pieces
+  pub after_leads : room < most → (rest : List ℕ) (pieces : List (Option Piece))
+      → Awaits (record {
+        senders = senders;
+        most = most;
+        least = least;
+        left = gone;
+        place = p;
+        bytes = bytes;
+      })
+      rest pieces → Fills most senders least gone owner left room rest pieces
   after_leads few rest pieces = elim (cases_lt 0 left) [
     | inl some ↦ subst (λ z.
-        Awaits (record { senders = senders; least = least; left = gone; place = z; bytes = bytes })
-        rest pieces → Fills senders least gone owner left room rest pieces)
+        Awaits (record {
+          senders = senders;
+          most = most;
+          least = least;
+          left = gone;
+          place = z;
+          bytes = bytes;
+        })
+        rest pieces → Fills most senders least gone owner left room rest pieces)
         (sym (after.some some))
         (λ a. elim a [
           | inl f ↦ f
           | inr o ↦ elim o [
-            | inl e ↦ absurd (let is : room ≡ 16 = e.fresh in omega arith)
-            | inr e ↦ absurd (let is : room ≡ 16 = e.fresh in omega arith)
+            | inl e ↦ absurd (let is : room ≡ most = e.fresh in omega arith)
+            | inr e ↦ absurd (let is : room ≡ most = e.fresh in omega arith)
           ]
         ])
     | inr none ↦ subst (λ z.
-        Awaits (record { senders = senders; least = least; left = gone; place = z; bytes = bytes })
-        rest pieces → Fills senders least gone owner left room rest pieces)
+        Awaits (record {
+          senders = senders;
+          most = most;
+          least = least;
+          left = gone;
+          place = z;
+          bytes = bytes;
+        })
+        rest pieces → Fills most senders least gone owner left room rest pieces)
         (sym (after.none (omega arith)))
         (λ a. record {
           messages = [];
@@ -64,15 +85,38 @@ module _ (senders least : ℕ) (gone : List Bool) (owner : SenderNo) (left room 
   ]
 
   pub after_covers : (rest : List ℕ) (pieces : List (Option Piece))
-      → Fills senders least gone owner left room rest pieces
-      → Awaits (record { senders = senders; least = least; left = gone; place = p; bytes = bytes })
+      → Fills most senders least gone owner left room rest pieces
+      → Awaits (record {
+        senders = senders;
+        most = most;
+        least = least;
+        left = gone;
+        place = p;
+        bytes = bytes;
+      })
       rest pieces
   after_covers rest pieces f = elim (cases_lt 0 left) [
     | inl some ↦ subst (λ z. Awaits
-        (record { senders = senders; least = least; left = gone; place = z; bytes = bytes }) rest
+        (record {
+          senders = senders;
+          most = most;
+          least = least;
+          left = gone;
+          place = z;
+          bytes =
+              bytes;
+        }) rest
         pieces) (sym (after.some some)) (inl f)
     | inr none ↦ subst (λ z. Awaits
-        (record { senders = senders; least = least; left = gone; place = z; bytes = bytes }) rest
+        (record {
+          senders = senders;
+          most = most;
+          least = least;
+          left = gone;
+          place = z;
+          bytes =
+              bytes;
+        }) rest
         pieces) (sym (after.none (omega arith)))
         (let e = no_messages f.messages (f.long ∙ omega arith) in (
           f.frames,
@@ -84,10 +128,17 @@ module _ (senders least : ℕ) (gone : List Bool) (owner : SenderNo) (left room 
 
   pub after_begins : left ≤ 8 * room
       → (rest : List ℕ) × (pieces : List (Option Piece))
-      × Awaits (record { senders = senders; least = least; left = gone; place = p; bytes = bytes })
+      × Awaits (record {
+        senders = senders;
+        most = most;
+        least = least;
+        left = gone;
+        place = p;
+        bytes = bytes;
+      })
       rest pieces
   after_begins h =
-      let s = fills_some senders least gone owner left room h in
+      let s = fills_some most senders least gone owner left room h in
       (s.0, s.1, after_covers s.0 s.1 s.2)
 
 -- behind a message is not the end
@@ -99,17 +150,17 @@ after_goes_on owner left room p after e = elim (cases_lt 0 left) [
 ]
 
 -- the rest of a message can follow
-pub completes_some : (senders least : ℕ) (gone : List Bool) (owner : SenderNo)
+pub completes_some : (most senders least : ℕ) (gone : List Bool) (owner : SenderNo)
     (left room number len : ℕ) (bytes : List ℕ)
     → length bytes < len → data_len (len - length bytes) ≤ left
     → left ≤ data_len (len - length bytes) + 8 * room
     → (rest : List ℕ) × (pieces : List (Option Piece))
-    × Completes senders least gone owner left room number len bytes rest pieces
-completes_some senders least gone owner left room number len bytes short within fillable =
+    × Completes most senders least gone owner left room number len bytes rest pieces
+completes_some most senders least gone owner left room number len bytes short within fillable =
     let n : ℕ = data_len (len - length bytes) - 1 in
     let more : List ℕ = replicate (len - length bytes) 0 in
     let size : length more ≡ len - length bytes = length-replicate {A = ℕ} (len - length bytes) 0 in
-    let s = fills_some senders least gone owner (left - suc n) room (omega arith) in (
+    let s = fills_some most senders least gone owner (left - suc n) room (omega arith) in (
       words_of_bytes (suc n) more ++ s.0,
       item_pieces n (record { sender = owner; number = number; message = bytes ++ more }) ++ s.1,
       record {
@@ -129,18 +180,19 @@ completes_some senders least gone owner left room number len bytes short within 
 
 -- ---- a message word
 
-module _ (senders least word : ℕ) (gone : List Bool) (owner : SenderNo) (left room : ℕ)
+module _ (most senders least word : ℕ) (gone : List Bool) (owner : SenderNo) (left room : ℕ)
     (bytes : List ℕ) (m : Length) (is : IsMessageWord word m) (some : 1 ≤ left) where
   -- what follows a message word in a message's place
   begun : (rest : List ℕ) (pieces : List (Option Piece))
       → Awaits (record {
         senders = senders;
+        most = most;
         least = least;
         left = gone;
         place = place.Body owner left room;
         bytes = bytes;
-      }) (word ∷ rest) pieces → First senders least gone owner left room word rest pieces
-  begun rest pieces (inl f) = first senders least gone owner left room word rest pieces some f
+      }) (word ∷ rest) pieces → First most senders least gone owner left room word rest pieces
+  begun rest pieces (inl f) = first most senders least gone owner left room word rest pieces some f
   begun rest pieces (inr (inl e)) = absurd (not_mark mark.End m.len m.number is.len is.number
       (let a = is.is in let b : word ∷ rest ≡ end_word ∷ [] = e.words_are in cc))
   begun rest pieces (inr (inr e)) = absurd (not_mark mark.Leave m.len m.number is.len is.number
@@ -148,7 +200,7 @@ module _ (senders least word : ℕ) (gone : List Bool) (owner : SenderNo) (left 
       let b : word ∷ rest ≡ mark_word mark.Leave ∷ log_words e.frames = e.words_are in cc))
 
   same_len : {rest : List ℕ} {pieces : List (Option Piece)}
-      → (f : First senders least gone owner left room word rest pieces)
+      → (f : First most senders least gone owner left room word rest pieces)
       → (m.len ≡ length f.message.message) × (m.number ≡ f.message.number)
   same_len f = message_parts m.len m.number (length f.message.message) f.message.number is.number
       f.lawful.0 (sym is.is ∙ f.word_is)
@@ -157,6 +209,7 @@ module _ (senders least word : ℕ) (gone : List Bool) (owner : SenderNo) (left 
   pub refuses_long : left < 1 + data_len m.len
       → Refuses (record {
         senders = senders;
+        most = most;
         least = least;
         left = gone;
         place = place.Body owner left room;
@@ -169,6 +222,7 @@ module _ (senders least word : ℕ) (gone : List Bool) (owner : SenderNo) (left 
   pub refuses_short : 8 * (room - 1) < left - (1 + data_len m.len)
       → Refuses (record {
         senders = senders;
+        most = most;
         least = least;
         left = gone;
         place = place.Body owner left room;
@@ -181,17 +235,26 @@ module _ (senders least word : ℕ) (gone : List Bool) (owner : SenderNo) (left 
       let most = words_most fills.messages fills.each in
       let long = fills.long in absurd (omega arith)
 
-  module _ (within : 1 + data_len m.len ≤ left) (room_more : 1 ≤ room) (room_few : room ≤ 16)
+  module _ (within : 1 + data_len m.len ≤ left) (room_more : 1 ≤ room) (room_few : room ≤ most)
       (fillable : left - (1 + data_len m.len) ≤ 8 * (room - 1)) where
     -- a message of no byte
     module _ (p : Place) (bytes' : List ℕ) (empty : m.len ≡ 0)
         (after : IsAfter owner (left - 1) (room - 1) p) where
       empty_leads : (rest : List ℕ) (pieces : List (Option Piece))
           → Awaits
-          (record { senders = senders; least = least; left = gone; place = p; bytes = bytes' }) rest
+          (record {
+            senders = senders;
+            most = most;
+            least = least;
+            left = gone;
+            place = p;
+            bytes =
+                bytes';
+          }) rest
           pieces
           → Awaits (record {
             senders = senders;
+            most = most;
             least = least;
             left = gone;
             place = place.Body owner left room;
@@ -199,21 +262,22 @@ module _ (senders least word : ℕ) (gone : List Bool) (owner : SenderNo) (left 
           }) (word ∷ rest)
           (Some (piece.Item (record { sender = owner; number = m.number; message = [] })) ∷ pieces)
       empty_leads rest pieces a =
-          let f = after_leads senders least gone owner (left - 1) (room - 1) p bytes' after
+          let f = after_leads most senders least gone owner (left - 1) (room - 1) p bytes' after
           (omega arith) rest pieces a in
           let message : Numbered = record { number = m.number; message = [] } in
-          let g = fills_more senders least gone owner left room message rest pieces
+          let g = fills_more most senders least gone owner left room message rest pieces
           (is.number, (omega arith, All-nil (λ b. b < 256))) (omega arith) room_more f in
           let e : word ≡ message_word 0 m.number =
           is.is ∙ ap (λ z. message_word z m.number) empty in
           inl
-          (subst (λ z. Fills senders least gone owner left room (z ∷ rest)
+          (subst (λ z. Fills most senders least gone owner left room (z ∷ rest)
           (Some (piece.Item (record { sender = owner; number = m.number; message = [] })) ∷ pieces))
           (sym e) g)
 
       empty_covers : (rest : List ℕ) (pieces : List (Option Piece))
           → Awaits (record {
             senders = senders;
+            most = most;
             least = least;
             left = gone;
             place = place.Body owner left room;
@@ -224,14 +288,22 @@ module _ (senders least word : ℕ) (gone : List Bool) (owner : SenderNo) (left 
           ≡ Some (piece.Item (record { sender = owner; number = m.number; message = [] }))
           ∷ further)
           × Awaits
-          (record { senders = senders; least = least; left = gone; place = p; bytes = bytes' }) rest
+          (record {
+            senders = senders;
+            most = most;
+            least = least;
+            left = gone;
+            place = p;
+            bytes =
+                bytes';
+          }) rest
           further
       empty_covers rest pieces a =
           let f = begun rest pieces a in let e = same_len f in
           let nothing : f.message.message ≡ [] = nil_from_length f.message.message (omega arith) in
-          let fills : Fills senders least gone owner (left - 1) (room - 1) f.rest_after
+          let fills : Fills most senders least gone owner (left - 1) (room - 1) f.rest_after
           f.pieces_after = subst
-          (λ z. Fills senders least gone owner z (room - 1) f.rest_after f.pieces_after)
+          (λ z. Fills most senders least gone owner z (room - 1) f.rest_after f.pieces_after)
           (ap (λ z. left - (1 + data_len (length z))) nothing) f.fills in
           let words : rest ≡ f.rest_after =
           f.words_are ∙ ap (λ z. words_of_bytes (data_len (length z)) z ++ f.rest_after) nothing in
@@ -248,24 +320,35 @@ module _ (senders least word : ℕ) (gone : List Bool) (owner : SenderNo) (left 
           (sym e.1) in (
             f.pieces_after,
             gives,
-            after_covers senders least gone owner (left - 1) (room - 1) p bytes' after rest
+            after_covers most senders least gone owner (left - 1) (room - 1) p bytes' after rest
                 f.pieces_after
-                (subst (λ z. Fills senders least gone owner (left - 1) (room - 1) z f.pieces_after)
+                (subst (λ z. Fills most senders least gone owner (left - 1)
+                (room - 1) z f.pieces_after)
                 (sym words) fills),
           )
 
       pub takes_empty : Takes (record {
         senders = senders;
+        most = most;
         least = least;
         left = gone;
         place = place.Body owner left room;
         bytes = bytes;
       }) word (Some (piece.Item (record { sender = owner; number = m.number; message = [] })))
-          (record { senders = senders; least = least; left = gone; place = p; bytes = bytes' })
+          (record {
+            senders = senders;
+            most = most;
+            least = least;
+            left = gone;
+            place = p;
+            bytes =
+                bytes';
+          })
       takes_empty = record {
+        limit = refl;
         leads = empty_leads;
         covers = empty_covers;
-        begins = after_begins senders least gone owner (left - 1) (room - 1) p bytes' after
+        begins = after_begins most senders least gone owner (left - 1) (room - 1) p bytes' after
             (omega arith);
         ended = (
           (λ e. absurd (after_goes_on owner (left - 1) (room - 1) p after e)),
@@ -278,6 +361,7 @@ module _ (senders least word : ℕ) (gone : List Bool) (owner : SenderNo) (left 
       begun_leads : (rest : List ℕ) (pieces : List (Option Piece))
           → Awaits (record {
             senders = senders;
+            most = most;
             least = least;
             left = gone;
             place = place.Data owner (left - 1) (room - 1) m.number m.len;
@@ -285,6 +369,7 @@ module _ (senders least word : ℕ) (gone : List Bool) (owner : SenderNo) (left 
           }) rest pieces
           → Awaits (record {
             senders = senders;
+            most = most;
             least = least;
             left = gone;
             place = place.Body owner left room;
@@ -294,11 +379,12 @@ module _ (senders least word : ℕ) (gone : List Bool) (owner : SenderNo) (left 
           let message : Numbered = record { number = m.number; message = k.more } in
           let size : length k.more ≡ m.len = let t = k.together in omega arith in
           let n_is = k.n_is in
-          let fills : Fills senders least gone owner (left - (1 + data_len (length k.more)))
+          let fills : Fills most senders least gone owner (left - (1 + data_len (length k.more)))
           (room - 1) k.rest_after k.pieces_after = subst
-          (λ z. Fills senders least gone owner z (room - 1) k.rest_after k.pieces_after)
+          (λ z. Fills most senders least gone owner z (room - 1) k.rest_after k.pieces_after)
           (omega arith) k.fills in
-          let g = fills_more senders least gone owner left room message k.rest_after k.pieces_after
+          let g = fills_more most senders least gone owner left room message k.rest_after
+          k.pieces_after
           (is.number, (let l = is.len in omega arith, k.each)) (let w = k.within in omega arith)
           room_more fills in
           let e : word ≡ message_word (length k.more) m.number =
@@ -311,14 +397,17 @@ module _ (senders least word : ℕ) (gone : List Bool) (owner : SenderNo) (left 
           let gives : None ∷ pieces ≡ message_pieces owner message ++ k.pieces_after =
           ap (λ z. None ∷ z) k.pieces_are
           ∙ ap (λ z. item_pieces z (item_of owner message) ++ k.pieces_after) (sym n_is) in
-          inl (subst (λ z. Fills senders least gone owner left room z (None ∷ pieces)) (sym words)
+          inl (subst (λ z. Fills most senders least gone owner left room z (None ∷ pieces))
+          (sym words)
           (subst
-          (λ z. Fills senders least gone owner left room (message_words message ++ k.rest_after) z)
+          (λ z. Fills most senders least gone owner left room (message_words message
+          ++ k.rest_after) z)
           (sym gives) g))
 
       begun_covers : (rest : List ℕ) (pieces : List (Option Piece))
           → Awaits (record {
             senders = senders;
+            most = most;
             least = least;
             left = gone;
             place = place.Body owner left room;
@@ -327,6 +416,7 @@ module _ (senders least word : ℕ) (gone : List Bool) (owner : SenderNo) (left 
           → (further : List (Option Piece)) × (pieces ≡ None ∷ further)
           × Awaits (record {
             senders = senders;
+            most = most;
             least = least;
             left = gone;
             place = place.Data owner (left - 1) (room - 1) m.number m.len;
@@ -350,7 +440,8 @@ module _ (senders least word : ℕ) (gone : List Bool) (owner : SenderNo) (left 
               rest_after = f.rest_after;
               pieces_after = f.pieces_after;
               fills = subst
-                  (λ z. Fills senders least gone owner z (room - 1) f.rest_after f.pieces_after)
+                  (λ z. Fills most senders least gone owner z (room - 1) f.rest_after
+                  f.pieces_after)
                   (omega arith) f.fills;
               within = let w = f.within in omega arith;
               words_are =
@@ -364,21 +455,25 @@ module _ (senders least word : ℕ) (gone : List Bool) (owner : SenderNo) (left 
 
       pub takes_begun : Takes (record {
         senders = senders;
+        most = most;
         least = least;
         left = gone;
         place = place.Body owner left room;
         bytes = bytes;
       }) word None (record {
         senders = senders;
+        most = most;
         least = least;
         left = gone;
         place = place.Data owner (left - 1) (room - 1) m.number m.len;
         bytes = [];
       })
       takes_begun = record {
+        limit = refl;
         leads = begun_leads;
         covers = begun_covers;
-        begins = completes_some senders least gone owner (left - 1) (room - 1) m.number m.len []
+        begins = completes_some most senders least gone owner (left - 1)
+            (room - 1) m.number m.len []
             long (omega arith) (omega arith);
         ended = ((λ e. absurd cc), (λ e. absurd cc));
       }
@@ -420,32 +515,35 @@ stays_after gone owner s stays other =
 
 -- ---- an end word, a leave word, and any other
 
-module _ (senders least word : ℕ) (gone : List Bool) (owner : SenderNo) (left room : ℕ)
+module _ (most senders least word : ℕ) (gone : List Bool) (owner : SenderNo) (left room : ℕ)
     (bytes bytes' : List ℕ) where
   -- a message has another word than a mark
   no_mark : (m : Mark) → 1 ≤ left → word ≡ mark_word m
       → (rest : List ℕ) (pieces : List (Option Piece))
-      → Fills senders least gone owner left room (word ∷ rest) pieces → ⊥
+      → Fills most senders least gone owner left room (word ∷ rest) pieces → ⊥
   no_mark m some is rest pieces f =
-      let g = first senders least gone owner left room word rest pieces some f in
+      let g = first most senders least gone owner left room word rest pieces some f in
       not_mark m (length g.message.message) g.message.number g.lawful.1.0 g.lawful.0
       (sym g.word_is ∙ is)
 
-  pub takes_end : 1 ≤ left → word ≡ end_word → left ≡ 1 → room ≡ 16
+  pub takes_end : 1 ≤ left → word ≡ end_word → left ≡ 1 → room ≡ most
       → Takes (record {
         senders = senders;
+        most = most;
         least = least;
         left = gone;
         place = place.Body owner left room;
         bytes = bytes;
       }) word (Some piece.End) (record {
         senders = senders;
+        most = most;
         least = least;
         left = gone;
         place = place.Ended;
         bytes = bytes';
       })
   takes_end some is alone fresh = record {
+    limit = refl;
     leads = λ rest pieces a. inr
         (inl (record {
           alone = alone;
@@ -464,9 +562,10 @@ module _ (senders least word : ℕ) (gone : List Bool) (owner : SenderNo) (left 
     ended = ((λ _. refl), (λ _. refl));
   }
 
-  pub refuses_end : 1 ≤ left → word ≡ end_word → ((left ≡ 1) → (room ≡ 16) → ⊥)
+  pub refuses_end : 1 ≤ left → word ≡ end_word → ((left ≡ 1) → (room ≡ most) → ⊥)
       → Refuses (record {
         senders = senders;
+        most = most;
         least = least;
         left = gone;
         place = place.Body owner left room;
@@ -477,22 +576,25 @@ module _ (senders least word : ℕ) (gone : List Bool) (owner : SenderNo) (left 
     | inr o ↦ elim o [ inl e ↦ unless e.alone e.fresh | inr e ↦ unless e.alone e.fresh ]
   ]
 
-  pub takes_leave : 1 ≤ left → word ≡ mark_word mark.Leave → left ≡ 1 → room ≡ 16
+  pub takes_leave : 1 ≤ left → word ≡ mark_word mark.Leave → left ≡ 1 → room ≡ most
       → owner.0 < length gone
       → Takes (record {
         senders = senders;
+        most = most;
         least = least;
         left = gone;
         place = place.Body owner left room;
         bytes = bytes;
       }) word (Some (piece.Leave owner)) (record {
         senders = senders;
+        most = most;
         least = least;
         left = slice_set gone owner.0 true;
         place = place.Between;
         bytes = bytes';
       })
   takes_leave some is alone fresh below = record {
+    limit = refl;
     leads = λ rest pieces a. inr (inr (record {
       alone = alone;
       fresh = fresh;
@@ -539,9 +641,10 @@ module _ (senders least word : ℕ) (gone : List Bool) (owner : SenderNo) (left 
     ended = ((λ e. absurd cc), (λ e. absurd cc));
   }
 
-  pub refuses_leave : 1 ≤ left → word ≡ mark_word mark.Leave → ((left ≡ 1) → (room ≡ 16) → ⊥)
+  pub refuses_leave : 1 ≤ left → word ≡ mark_word mark.Leave → ((left ≡ 1) → (room ≡ most) → ⊥)
       → Refuses (record {
         senders = senders;
+        most = most;
         least = least;
         left = gone;
         place = place.Body owner left room;
@@ -556,6 +659,7 @@ module _ (senders least word : ℕ) (gone : List Bool) (owner : SenderNo) (left 
       → ((m : Length) → ¬ IsMessageWord word m)
       → Refuses (record {
         senders = senders;
+        most = most;
         least = least;
         left = gone;
         place = place.Body owner left room;
@@ -563,7 +667,7 @@ module _ (senders least word : ℕ) (gone : List Bool) (owner : SenderNo) (left 
       }) word
   refuses_other some not not' never rest pieces a = elim a [
     | inl f ↦
-        let g = first senders least gone owner left room word rest pieces some f in
+        let g = first most senders least gone owner left room word rest pieces some f in
         never (record { len = length g.message.message; number = g.message.number })
         (record { is = g.word_is; len = g.lawful.1.0; number = g.lawful.0 })
     | inr o ↦ elim o [

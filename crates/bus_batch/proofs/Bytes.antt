@@ -123,14 +123,16 @@ refilled word k few none = ext_get_or 0 (take 8 (take k (to_be_bytes w64 word) +
 
 -- ---- what a word of bytes does
 
-module _ (senders least word : ℕ) (gone : List Bool) (owner : SenderNo) (left room number len k : ℕ)
+module _ (most senders least word : ℕ) (gone : List Bool) (owner : SenderNo)
+    (left room number len k : ℕ)
     (bytes : List ℕ) (fits : word < 2 ^ 64)
     (unfinished : length bytes < len) (within : data_len (len - length bytes) ≤ left)
-    (fillable : left ≤ data_len (len - length bytes) + 8 * room) (few : room < 16)
+    (fillable : left ≤ data_len (len - length bytes) + 8 * room) (few : room < most)
     (k_is : k ≡ min (len - length bytes) 8) where
   -- what a word is that may come
   bytes_of : {rest : List ℕ} {pieces : List (Option Piece)}
-      → (c : Completes senders least gone owner left room number len bytes (word ∷ rest) pieces)
+      → (c : Completes most senders least gone owner left room number len bytes
+      (word ∷ rest) pieces)
       → to_be_bytes w64 word ≡ take 8 (c.more ++ replicate 8 0)
   bytes_of {rest} c = data_bytes c.more word c.each
       (let e : word ∷ rest
@@ -138,7 +140,7 @@ module _ (senders least word : ℕ) (gone : List Bool) (owner : SenderNo) (left 
       cc)
 
   more_len : {rest : List ℕ} {pieces : List (Option Piece)}
-      → (c : Completes senders least gone owner left room number len bytes rest pieces)
+      → (c : Completes most senders least gone owner left room number len bytes rest pieces)
       → length c.more ≡ len - length bytes
   more_len c = let e = c.together in omega arith
 
@@ -146,6 +148,7 @@ module _ (senders least word : ℕ) (gone : List Bool) (owner : SenderNo) (left 
   pub refuses_padding : (All (λ b. b ≡ 0) (drop k (to_be_bytes w64 word)) → ⊥)
       → Refuses (record {
         senders = senders;
+        most = most;
         least = least;
         left = gone;
         place = place.Data owner left room number len;
@@ -162,7 +165,8 @@ module _ (senders least word : ℕ) (gone : List Bool) (owner : SenderNo) (left 
     took_small = All-take (λ b. b < 256) k (to_be_bytes w64 word) (spread_small word)
 
     took_is : {rest : List ℕ} {pieces : List (Option Piece)}
-        → (c : Completes senders least gone owner left room number len bytes (word ∷ rest) pieces)
+        → (c : Completes most senders least gone owner left room number len bytes
+        (word ∷ rest) pieces)
         → take 8 c.more ≡ take k (to_be_bytes w64 word)
     took_is c = sym (ap (λ z. take k z) (bytes_of c)
         ∙ taken c.more k (k_is ∙ ap (λ z. min z 8) (sym (more_len c))))
@@ -172,9 +176,17 @@ module _ (senders least word : ℕ) (gone : List Bool) (owner : SenderNo) (left 
         (after : IsAfter owner (left - 1) room p) where
       whole_leads : (rest : List ℕ) (pieces : List (Option Piece))
           → Awaits
-          (record { senders = senders; least = least; left = gone; place = p; bytes = bytes' }) rest
+          (record {
+            senders = senders;
+            most = most;
+            least = least;
+            left = gone;
+            place = p;
+            bytes =
+                bytes';
+          }) rest
           pieces
-          → Completes senders least gone owner left room number len bytes (word ∷ rest)
+          → Completes most senders least gone owner left room number len bytes (word ∷ rest)
           (Some
           (piece.Item (record {
             sender = owner;
@@ -183,7 +195,8 @@ module _ (senders least word : ℕ) (gone : List Bool) (owner : SenderNo) (left 
           })) ∷ pieces)
       whole_leads rest pieces a =
           let f =
-          after_leads senders least gone owner (left - 1) room p bytes' after few rest pieces a in
+          after_leads most senders least gone owner (left - 1) room p bytes' after few rest pieces
+          a in
           let size = took_len in
           record {
             more = take k (to_be_bytes w64 word);
@@ -201,7 +214,7 @@ module _ (senders least word : ℕ) (gone : List Bool) (owner : SenderNo) (left 
           }
 
       whole_covers : (rest : List ℕ) (pieces : List (Option Piece))
-          → Completes senders least gone owner left room number len bytes (word ∷ rest) pieces
+          → Completes most senders least gone owner left room number len bytes (word ∷ rest) pieces
           → (further : List (Option Piece))
           × (pieces
           ≡ Some
@@ -211,7 +224,15 @@ module _ (senders least word : ℕ) (gone : List Bool) (owner : SenderNo) (left 
             message = bytes ++ take k (to_be_bytes w64 word);
           })) ∷ further)
           × Awaits
-          (record { senders = senders; least = least; left = gone; place = p; bytes = bytes' }) rest
+          (record {
+            senders = senders;
+            most = most;
+            least = least;
+            left = gone;
+            place = p;
+            bytes =
+                bytes';
+          }) rest
           further
       whole_covers rest pieces c =
           let size = more_len c in
@@ -236,19 +257,22 @@ module _ (senders least word : ℕ) (gone : List Bool) (owner : SenderNo) (left 
           ∙ ap (λ z.
           Some (piece.Item (record { sender = owner; number = number; message = bytes ++ z }))
           ∷ c.pieces_after) more_is in
-          let fills : Fills senders least gone owner (left - 1) room c.rest_after c.pieces_after =
+          let fills : Fills most senders least gone owner (left - 1) room c.rest_after
+          c.pieces_after =
           subst
-          (λ z. Fills senders least gone owner (left - suc z) room c.rest_after c.pieces_after)
+          (λ z. Fills most senders least gone owner (left - suc z) room c.rest_after c.pieces_after)
           n_zero c.fills in (
             c.pieces_after,
             gives,
-            after_covers senders least gone owner (left - 1) room p bytes' after rest c.pieces_after
-                (subst (λ z. Fills senders least gone owner (left - 1) room z c.pieces_after)
+            after_covers most senders least gone owner (left - 1) room p bytes' after rest
+                c.pieces_after
+                (subst (λ z. Fills most senders least gone owner (left - 1) room z c.pieces_after)
                 (sym rest_is) fills),
           )
 
       pub takes_last : Takes (record {
         senders = senders;
+        most = most;
         least = least;
         left = gone;
         place = place.Data owner left room number len;
@@ -259,11 +283,20 @@ module _ (senders least word : ℕ) (gone : List Bool) (owner : SenderNo) (left 
             sender = owner;
             number = number;
             message = bytes ++ take k (to_be_bytes w64 word);
-          }))) (record { senders = senders; least = least; left = gone; place = p; bytes = bytes' })
+          }))) (record {
+            senders = senders;
+            most = most;
+            least = least;
+            left = gone;
+            place = p;
+            bytes = bytes';
+          })
       takes_last = record {
+        limit = refl;
         leads = whole_leads;
         covers = whole_covers;
-        begins = after_begins senders least gone owner (left - 1) room p bytes' after (omega arith);
+        begins = after_begins most senders least gone owner (left - 1) room p bytes' after
+            (omega arith);
         ended = (
           (λ e. absurd (after_goes_on owner (left - 1) room p after e)),
           (λ e. absurd cc),
@@ -280,9 +313,9 @@ module _ (senders least word : ℕ) (gone : List Bool) (owner : SenderNo) (left 
           (let e = spread_len word in let e' = eight in omega arith)
 
       part_leads : (rest : List ℕ) (pieces : List (Option Piece))
-          → Completes senders least gone owner (left - 1) room number len
+          → Completes most senders least gone owner (left - 1) room number len
           (bytes ++ take k (to_be_bytes w64 word)) rest pieces
-          → Completes senders least gone owner left room number len bytes (word ∷ rest)
+          → Completes most senders least gone owner left room number len bytes (word ∷ rest)
           (None ∷ pieces)
       part_leads rest pieces c =
           let size = took_len in
@@ -314,7 +347,8 @@ module _ (senders least word : ℕ) (gone : List Bool) (owner : SenderNo) (left 
             pieces_after = c.pieces_after;
             fills =
                 let e : (left - 1) - suc c.n ≡ left - suc (suc c.n) = omega arith in
-                subst (λ z. Fills senders least gone owner z room c.rest_after c.pieces_after) e
+                subst (λ z. Fills most senders least gone owner z room c.rest_after c.pieces_after)
+                e
                 c.fills;
             within = omega arith;
             words_are =
@@ -333,9 +367,9 @@ module _ (senders least word : ℕ) (gone : List Bool) (owner : SenderNo) (left 
           }
 
       part_covers : (rest : List ℕ) (pieces : List (Option Piece))
-          → Completes senders least gone owner left room number len bytes (word ∷ rest) pieces
+          → Completes most senders least gone owner left room number len bytes (word ∷ rest) pieces
           → (further : List (Option Piece)) × (pieces ≡ None ∷ further)
-          × Completes senders least gone owner (left - 1) room number len
+          × Completes most senders least gone owner (left - 1) room number len
           (bytes ++ take k (to_be_bytes w64 word)) rest further
       part_covers rest pieces c =
           let size = more_len c in
@@ -382,7 +416,8 @@ module _ (senders least word : ℕ) (gone : List Bool) (owner : SenderNo) (left 
               pieces_after = c.pieces_after;
               fills =
                   let e : left - suc c.n ≡ (left - 1) - suc (c.n - 1) = omega arith in
-                  subst (λ z. Fills senders least gone owner z room c.rest_after c.pieces_after) e
+                  subst (λ z. Fills most senders least gone owner z room c.rest_after
+                  c.pieces_after) e
                   c.fills;
               within = omega arith;
               words_are =
@@ -393,25 +428,28 @@ module _ (senders least word : ℕ) (gone : List Bool) (owner : SenderNo) (left 
 
       pub takes_part : Takes (record {
         senders = senders;
+        most = most;
         least = least;
         left = gone;
         place = place.Data owner left room number len;
         bytes = bytes;
       }) word None (record {
         senders = senders;
+        most = most;
         least = least;
         left = gone;
         place = place.Data owner (left - 1) room number len;
         bytes = bytes ++ take k (to_be_bytes w64 word);
       })
       takes_part = record {
+        limit = refl;
         leads = part_leads;
         covers = part_covers;
         begins = let size = took_len in let is_eight = eight in
             let had : length (bytes ++ take k (to_be_bytes w64 word))
             ≡ length bytes + length (take k (to_be_bytes w64 word)) =
             length-append bytes (take k (to_be_bytes w64 word)) in
-            completes_some senders least gone owner (left - 1) room number len
+            completes_some most senders least gone owner (left - 1) room number len
             (bytes ++ take k (to_be_bytes w64 word)) (omega arith) (omega arith) (omega arith);
         ended = ((λ e. absurd cc), (λ e. absurd cc));
       }

@@ -70,11 +70,11 @@ filling (suc room) left h = elim (cases_lt left 8) [
 ]
 
 -- something can follow
-pub fills_some : (senders least : ℕ) (gone : List Bool) (owner : SenderNo) (left room : ℕ)
+pub fills_some : (most senders least : ℕ) (gone : List Bool) (owner : SenderNo) (left room : ℕ)
     → left ≤ 8 * room
     → (rest : List ℕ) × (pieces : List (Option Piece))
-    × Fills senders least gone owner left room rest pieces
-fills_some senders least gone owner left room h =
+    × Fills most senders least gone owner left room rest pieces
+fills_some most senders least gone owner left room h =
     let f = filling room left h in (
       flat_map message_words f.messages ++ [],
       flat_map (message_pieces owner) f.messages ++ [],
@@ -91,7 +91,7 @@ fills_some senders least gone owner left room h =
     )
 
 -- the first of the messages that fill words which begin with this one
-pub record First (senders least : ℕ) (gone : List Bool) (owner : SenderNo) (left room word : ℕ)
+pub record First (most senders least : ℕ) (gone : List Bool) (owner : SenderNo) (left room word : ℕ)
     (rest : List ℕ) (pieces : List (Option Piece)) : Type 0 where
   pub message : Numbered
   pub lawful : IsNumbered message
@@ -100,19 +100,20 @@ pub record First (senders least : ℕ) (gone : List Bool) (owner : SenderNo) (le
   pub room_more : 1 ≤ room
   pub rest_after : List ℕ
   pub pieces_after : List (Option Piece)
-  pub fills : Fills senders least gone owner (left - (1 + data_len (length message.message)))
+  pub fills : Fills most senders least gone owner (left - (1 + data_len (length message.message)))
       (room - 1) rest_after pieces_after
   pub words_are : rest
       ≡ words_of_bytes (data_len (length message.message)) message.message ++ rest_after
   pub pieces_are : pieces ≡ message_pieces owner message ++ pieces_after
 
-module _ (senders least : ℕ) (gone : List Bool) (owner : SenderNo) (left room word : ℕ)
+module _ (most senders least : ℕ) (gone : List Bool) (owner : SenderNo) (left room word : ℕ)
     (rest : List ℕ) (pieces : List (Option Piece)) where
   first_of : (ms : List Numbered) → 1 ≤ left → length ms ≤ room → All IsNumbered ms
       → length (flat_map message_words ms) ≡ left
-      → (frames : List Frame) → (f : Fills senders least gone owner left room (word ∷ rest) pieces)
+      → (frames : List Frame) → (f : Fills most senders least gone owner left room
+      (word ∷ rest) pieces)
       → f.messages ≡ ms → f.frames ≡ frames
-      → First senders least gone owner left room word rest pieces
+      → First most senders least gone owner left room word rest pieces
   first_of [] some few each long frames f e e' = absurd (omega arith)
   first_of (m ∷ ms) some few each long frames f e e' =
       let words : word ∷ rest ≡ flat_map message_words (m ∷ ms) ++ log_words frames =
@@ -143,7 +144,7 @@ module _ (senders least : ℕ) (gone : List Bool) (owner : SenderNo) (left room 
           each = All-tail IsNumbered m ms each;
           long = omega arith;
           frames = frames;
-          lawful = subst (λ z. MayFollow senders least gone z) e' f.lawful;
+          lawful = subst (λ z. MayFollow most senders least gone z) e' f.lawful;
           words_are = refl;
           pieces_are = refl;
         };
@@ -154,19 +155,19 @@ module _ (senders least : ℕ) (gone : List Bool) (owner : SenderNo) (left room 
             (log_pieces frames);
       }
 
-  pub first : 1 ≤ left → Fills senders least gone owner left room (word ∷ rest) pieces
-      → First senders least gone owner left room word rest pieces
+  pub first : 1 ≤ left → Fills most senders least gone owner left room (word ∷ rest) pieces
+      → First most senders least gone owner left room word rest pieces
   first some f = first_of f.messages some f.few f.each f.long f.frames f refl refl
 
 -- one message more in front
-pub fills_more : (senders least : ℕ) (gone : List Bool) (owner : SenderNo) (left room : ℕ)
+pub fills_more : (most senders least : ℕ) (gone : List Bool) (owner : SenderNo) (left room : ℕ)
     (m : Numbered) (rest : List ℕ) (pieces : List (Option Piece))
     → IsNumbered m → 1 + data_len (length m.message) ≤ left → 1 ≤ room
-    → Fills senders least gone owner (left - (1 + data_len (length m.message))) (room - 1) rest
+    → Fills most senders least gone owner (left - (1 + data_len (length m.message))) (room - 1) rest
     pieces
-    → Fills senders least gone owner left room (message_words m ++ rest)
+    → Fills most senders least gone owner left room (message_words m ++ rest)
     (message_pieces owner m ++ pieces)
-fills_more senders least gone owner left room m rest pieces lawful within some f = record {
+fills_more most senders least gone owner left room m rest pieces lawful within some f = record {
   messages = m ∷ f.messages;
   few = let e = f.few in omega arith;
   each = All-cons IsNumbered m f.messages lawful f.each;

@@ -1,5 +1,6 @@
 -- A word in a head's place.
-use Rattle.std.proofs.Common.{◌≡◌, ℕ, ◌+◌, ◌^◌, ◌<◌, ◌≤◌, List, [], ◌∷◌, ◌++◌, length, arith, refl}
+use Rattle.std.proofs.Common.{◌≡◌, ℕ, ◌+◌, ◌*◌, ◌^◌, ◌<◌, ◌≤◌, List, [], ◌∷◌, ◌++◌, length, arith}
+use Rattle.std.proofs.Common.{refl}
 use Rattle.std.proofs.Common.{sym, ap, ◌∙◌, subst, inl, inr}
 use Rattle.std.specs.Prelude.{◌≢◌, All, Bool, true, false, Option, Some, slice_get}
 use Rattle.std.proofs.lemmas.List.Elements.{All-nil, All-cons, All-head, All-tail}
@@ -11,22 +12,29 @@ use Rattle.bus_batch.specs.declared.messages.Piece.TheVariants as piece
 use Rattle.bus_batch.specs.declared.readers.Head.{Head}
 use Rattle.bus_batch.specs.declared.readers.Place.TheVariants as place
 use Rattle.bus_batch.specs.Messages.{Numbered}
-use Rattle.bus_batch.specs.Frames.{end_word, Frame, Body, Messages, Marked, IsFrame}
-use Rattle.bus_batch.specs.Frames.{IsBody, head_word, message_words, body_words}
+use Rattle.bus_batch.specs.Frames.{end_word, Frame, Body, Messages, Marked, IsFrameOf}
+use Rattle.bus_batch.specs.Frames.{IsBodyOf, IsBody, head_word, message_words, body_words}
 use Rattle.bus_batch.specs.Frames.{body_pieces, log_words, log_pieces}
 use Rattle.bus_batch.specs.Reading.{Awaits, MayFollow}
 use Rattle.bus_batch.specs.Steps.{IsHead, Takes, Refuses}
 use Rattle.bus_batch.proofs.WordLaws.{head_parts, words_most, words_least}
 use Rattle.bus_batch.proofs.Fillings.{fills_some}
 
--- a frame has 1 to 128 words after its head
+-- a frame has some words after its head, and no more than its messages can fill
+pub body_has : (most : ℕ) (b : Body) → IsBodyOf most b → 1 ≤ length (body_words b)
+body_has most (Messages ms) h = let e = words_least ms in let s = h.0 in omega arith
+body_has most (Marked m) h = omega arith
+
+pub body_within : (most : ℕ) (b : Body) → 1 ≤ most → IsBodyOf most b → length
+    (body_words b) ≤ 8 * most
+body_within most (Messages ms) some h = let e = words_most ms h.2 in let s = h.1 in omega arith
+body_within most (Marked m) some h = omega arith
+
 pub body_some : (b : Body) → IsBody b → 1 ≤ length (body_words b)
-body_some (Messages ms) h = let e = words_least ms in let s = h.0 in omega arith
-body_some (Marked m) h = omega arith
+body_some b h = body_has 16 b h
 
 pub body_most : (b : Body) → IsBody b → length (body_words b) ≤ 128
-body_most (Messages ms) h = let e = words_most ms h.2 in let s = h.1 in omega arith
-body_most (Marked m) h = omega arith
+body_most b h = body_within 16 b (omega arith) h
 
 some_messages : (ms : List Numbered) (count : ℕ) → length (flat_map message_words ms) ≡ count
     → 1 ≤ count → 0 < length ms
@@ -36,8 +44,9 @@ some_messages (m ∷ ms) count e h = omega arith
 abbrev owner_of : ℕ → SenderNo
 owner_of n = record { 0 = n }
 
-module _ (senders least word : ℕ) (gone : List Bool) (bytes bytes' : List ℕ) (h : Head)
-    (is : IsHead senders least word h) (stays : slice_get gone h.owner.0 ≡ Some false) where
+module _ (most senders least word : ℕ) (gone : List Bool) (bytes bytes' : List ℕ)
+    (limit : (1 ≤ most) × (most ≤ 16)) (h : Head)
+    (is : IsHead most senders least word h) (stays : slice_get gone h.owner.0 ≡ Some false) where
   -- its frame, and then frames of others than have left
   of_stayers : (frame : Frame) (frames : List Frame) → frame.owner ≡ h.owner
       → All (λ f. slice_get gone f.owner.0 ≡ Some false) frames
@@ -48,13 +57,15 @@ module _ (senders least word : ℕ) (gone : List Bool) (bytes bytes' : List ℕ)
   head_leads : (rest : List ℕ) (pieces : List (Option Piece))
       → Awaits (record {
         senders = senders;
+        most = most;
         least = h.tenure + 1;
         left = gone;
-        place = place.Body h.owner h.count 16;
+        place = place.Body h.owner h.count most;
         bytes = bytes';
       }) rest pieces
       → Awaits (record {
         senders = senders;
+        most = most;
         least = least;
         left = gone;
         place = place.Between;
@@ -129,16 +140,17 @@ module _ (senders least word : ℕ) (gone : List Bool) (bytes bytes' : List ℕ)
         (let e' = e.pieces_are in cc),
       )
 
-  in_body : (rest : List ℕ) (b : Body) (frames : List Frame) → IsBody b
+  in_body : (rest : List ℕ) (b : Body) (frames : List Frame) → IsBodyOf most b
       → (b ≡ Marked mark.End → frames ≡ [])
       → (b ≡ Marked mark.Leave → All (λ g. g.owner ≢ h.owner) frames)
-      → MayFollow senders (h.tenure + 1) gone frames
+      → MayFollow most senders (h.tenure + 1) gone frames
       → length (body_words b) ≡ h.count → rest ≡ body_words b ++ log_words frames
       → Awaits (record {
         senders = senders;
+        most = most;
         least = h.tenure + 1;
         left = gone;
-        place = place.Body h.owner h.count 16;
+        place = place.Body h.owner h.count most;
         bytes = bytes';
       }) rest (body_pieces h.owner b ++ log_pieces frames)
   in_body rest (Messages ms) frames body last others later long words =
@@ -175,29 +187,30 @@ module _ (senders least word : ℕ) (gone : List Bool) (bytes bytes' : List ℕ)
 
   in_frame : (rest : List ℕ) (pieces : List (Option Piece)) (t : ℕ) (o : SenderNo) (b : Body)
       (frames : List Frame)
-      → IsFrame senders (record { tenure = t; owner = o; body = b })
+      → IsFrameOf most senders (record { tenure = t; owner = o; body = b })
       → (b ≡ Marked mark.End → frames ≡ [])
       → (b ≡ Marked mark.Leave → All (λ g. g.owner ≢ o) frames)
-      → MayFollow senders (t + 1) gone frames
+      → MayFollow most senders (t + 1) gone frames
       → word ∷ rest ≡ head_word o.0 (length (body_words b)) t ∷ (body_words b ++ log_words frames)
       → pieces ≡ Some (piece.Head t o) ∷ (body_pieces o b ++ log_pieces frames)
       → (further : List (Option Piece)) × (pieces ≡ Some (piece.Head h.tenure h.owner) ∷ further)
       × Awaits (record {
         senders = senders;
+        most = most;
         least = h.tenure + 1;
         left = gone;
-        place = place.Body h.owner h.count 16;
+        place = place.Body h.owner h.count most;
         bytes = bytes';
       }) rest further
   in_frame rest pieces t o b frames lawful last others later words gives =
-      let most = body_most b lawful.body in
-      let count_bits : h.count < 2 ^ 14 = let m = is.most in omega arith in
+      let size = body_within most b limit.0 lawful.body in let few = limit.1 in
+      let count_bits : h.count < 2 ^ 14 = let m = is.fillable in let few = limit.1 in omega arith in
       let parts = head_parts o.0 (length (body_words b)) t h.owner.0 h.count h.tenure
       lawful.owner_bits (omega arith) lawful.tenure is.owner_bits count_bits is.tenure
       (let e = is.is in cc) in
       let owner_is : o ≡ h.owner = ap (λ (n : ℕ). owner_of n) parts.0 in
-      let later' : MayFollow senders (h.tenure + 1) gone frames =
-      subst (λ z. MayFollow senders (z + 1) gone frames) parts.2 later in
+      let later' : MayFollow most senders (h.tenure + 1) gone frames =
+      subst (λ z. MayFollow most senders (z + 1) gone frames) parts.2 later in
       let others' : b ≡ Marked mark.Leave → All (λ g. g.owner ≢ h.owner) frames =
       λ e. subst (λ (z : SenderNo). All (λ g. g.owner ≢ z) frames) owner_is (others e) in
       let gives' : pieces
@@ -212,14 +225,15 @@ module _ (senders least word : ℕ) (gone : List Bool) (bytes bytes' : List ℕ)
       )
 
   head_covers : (rest : List ℕ) (pieces : List (Option Piece)) (frames : List Frame)
-      → MayFollow senders least gone frames
+      → MayFollow most senders least gone frames
       → word ∷ rest ≡ log_words frames → pieces ≡ log_pieces frames
       → (further : List (Option Piece)) × (pieces ≡ Some (piece.Head h.tenure h.owner) ∷ further)
       × Awaits (record {
         senders = senders;
+        most = most;
         least = h.tenure + 1;
         left = gone;
-        place = place.Body h.owner h.count 16;
+        place = place.Body h.owner h.count most;
         bytes = bytes';
       }) rest further
   head_covers rest pieces [] lawful words gives = absurd (cc)
@@ -231,6 +245,7 @@ module _ (senders least word : ℕ) (gone : List Bool) (bytes bytes' : List ℕ)
 
   pub takes_head : Takes (record {
     senders = senders;
+    most = most;
     least = least;
     left = gone;
     place = place.Between;
@@ -238,43 +253,46 @@ module _ (senders least word : ℕ) (gone : List Bool) (bytes bytes' : List ℕ)
   }) word (Some (piece.Head h.tenure h.owner))
       (record {
         senders = senders;
+        most = most;
         least = h.tenure + 1;
         left = gone;
-        place = place.Body h.owner h.count 16;
+        place = place.Body h.owner h.count most;
         bytes = bytes';
       })
   takes_head = record {
+    limit = refl;
     leads = head_leads;
     covers = λ rest pieces a. head_covers rest pieces a.0 a.1 a.2 a.3;
     begins =
-        let s = fills_some senders (h.tenure + 1) gone h.owner h.count 16
-        (let m = is.most in omega arith) in
+        let s = fills_some most senders (h.tenure + 1) gone h.owner h.count most
+        (let m = is.fillable in omega arith) in
         (s.0, s.1, inl s.2);
     ended = ((λ e. absurd cc), (λ e. absurd cc));
   }
 
 -- a word that is no head is refused
-module _ (senders least word : ℕ) (gone : List Bool) (bytes : List ℕ)
-    (no : (h : Head) → ¬ IsHead senders least word h) where
-  no_head : (rest : List ℕ) (frames : List Frame) → MayFollow senders least gone frames
+module _ (most senders least word : ℕ) (gone : List Bool) (bytes : List ℕ) (positive : 1 ≤ most)
+    (no : (h : Head) → ¬ IsHead most senders least word h) where
+  no_head : (rest : List ℕ) (frames : List Frame) → MayFollow most senders least gone frames
       → word ∷ rest ≡ log_words frames → ⊥
   no_head rest [] lawful words = absurd (cc)
   no_head rest (f ∷ frames) lawful words =
-      let some = body_some f.body lawful.0.0.body in
-      let most = body_most f.body lawful.0.0.body in
+      let some = body_has most f.body lawful.0.0.body in
+      let size = body_within most f.body positive lawful.0.0.body in
       no (record { tenure = f.tenure; owner = f.owner; count = length (body_words f.body) })
       (record {
         is = cc;
         owner = lawful.0.0.owner;
         owner_bits = lawful.0.0.owner_bits;
         some = some;
-        most = most;
+        fillable = size;
         late = lawful.0.1;
         tenure = lawful.0.0.tenure;
       })
 
   pub refuses_head : Refuses (record {
     senders = senders;
+    most = most;
     least = least;
     left = gone;
     place = place.Between;
@@ -283,14 +301,15 @@ module _ (senders least word : ℕ) (gone : List Bool) (bytes : List ℕ)
   refuses_head rest pieces a = no_head rest a.0 a.1 a.2
 
 -- so is the head of one who has left
-module _ (senders least word : ℕ) (gone : List Bool) (bytes : List ℕ) (h : Head)
-    (is : IsHead senders least word h) (left : slice_get gone h.owner.0 ≡ Some true) where
-  no_leaver : (rest : List ℕ) (frames : List Frame) → MayFollow senders least gone frames
+module _ (most senders least word : ℕ) (gone : List Bool) (bytes : List ℕ)
+    (limit : (1 ≤ most) × (most ≤ 16)) (h : Head)
+    (is : IsHead most senders least word h) (left : slice_get gone h.owner.0 ≡ Some true) where
+  no_leaver : (rest : List ℕ) (frames : List Frame) → MayFollow most senders least gone frames
       → word ∷ rest ≡ log_words frames → ⊥
   no_leaver rest [] lawful words = absurd (cc)
   no_leaver rest (f ∷ frames) lawful words =
-      let most = body_most f.body lawful.0.0.body in
-      let count_bits : h.count < 2 ^ 14 = let m = is.most in omega arith in
+      let size = body_within most f.body limit.0 lawful.0.0.body in let few = limit.1 in
+      let count_bits : h.count < 2 ^ 14 = let m = is.fillable in let few = limit.1 in omega arith in
       let parts = head_parts f.owner.0 (length (body_words f.body)) f.tenure h.owner.0 h.count
       h.tenure lawful.0.0.owner_bits (omega arith) lawful.0.0.tenure is.owner_bits count_bits
       is.tenure (let e = is.is in cc) in
@@ -301,6 +320,7 @@ module _ (senders least word : ℕ) (gone : List Bool) (bytes : List ℕ) (h : H
 
   pub refuses_leaver : Refuses (record {
     senders = senders;
+    most = most;
     least = least;
     left = gone;
     place = place.Between;

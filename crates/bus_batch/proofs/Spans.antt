@@ -45,20 +45,22 @@ pub cut_is : (a len : ℕ) (xs : List ℕ) → len ≤ a → take len xs ≡ tak
 cut_is a len xs within = sym (take-take len a xs within)
 
 -- ---- where a reader stands behind a message
-pub after_sound : (owner : SenderNo) (left room : ℕ) (p : Place) (bytes : List ℕ)
-    → IsAfter owner left room p → bytes ≡ [] → left ≤ 8 * room → room ≤ 16 → IsSound p bytes
-after_sound owner zero room p bytes after none fillable few =
-    subst (λ q. IsSound q bytes) (sym (after.none refl)) none
-after_sound owner (suc left) room p bytes after none fillable few =
-    subst (λ q. IsSound q bytes) (sym (after.some (omega arith)))
+pub after_sound : (most : ℕ) (owner : SenderNo) (left room : ℕ) (p : Place) (bytes : List ℕ)
+    → IsAfter owner left room p → bytes ≡ [] → left ≤ 8 * room → room ≤ most
+    → IsSound most p bytes
+after_sound most owner zero room p bytes after none fillable few =
+    subst (λ q. IsSound most q bytes) (sym (after.none refl)) none
+after_sound most owner (suc left) room p bytes after none fillable few =
+    subst (λ q. IsSound most q bytes) (sym (after.some (omega arith)))
     (none, omega arith, fillable, few)
 
 -- ---- a step that leads on
 pub leads_on : (old new : Reading) (word : ℕ) (found : Option Piece) → Takes old word found new
-    → (IsSound old.place old.bytes → IsSound new.place new.bytes) → LeadsOn old word found new
-leads_on old new word found takes sound words pieces had = (
-  gives_piece old.senders words pieces word old new had found takes,
-  has_read old.senders words pieces word old new had found takes (sound had.sound),
+    → (IsSound old.most old.place old.bytes → IsSound new.most new.place new.bytes)
+    → LeadsOn old word found new
+leads_on old new word found takes sound most words pieces had = (
+  gives_piece most old.senders words pieces word old new had found takes,
+  has_read most old.senders words pieces word old new had found takes (sound had.sound),
 )
 
 pub bytes_long : (taken : List ℕ) → length (flat_map (to_be_bytes w64) taken) ≡ 8 * length taken
@@ -77,7 +79,7 @@ bytes_more taken word =
 module _ (r : Reading) (span : Span) (is : IsSpan r span) where
   -- a word of the bytes that is not the last
   pub goes_on_within : GoesOnWithin r span
-  goes_on_within taken word fits more words pieces had =
+  goes_on_within taken word fits more most words pieces had =
       let bytes = flat_map (to_be_bytes w64) taken in
       let size = bytes_long taken in
       let many = is.words in
@@ -85,7 +87,7 @@ module _ (r : Reading) (span : Span) (is : IsSpan r span) where
       let here = span.left - (1 + length taken) in
       let left_is : here - 1 ≡ span.left - (1 + length (taken ++ word ∷ [])) =
       let e = length-append taken (word ∷ []) in omega arith in
-      let steps = takes_eight r.senders r.least word r.left span.owner here (span.room - 1)
+      let steps = takes_eight r.most r.senders r.least word r.left span.owner here (span.room - 1)
       span.number span.len bytes fits sound.2 sound.3 sound.4 (omega arith) in
       let takes : Takes (midway r span taken) word None (midway r span (taken ++ word ∷ [])) =
       subst (λ z. Takes (midway r span taken) word None (record r {
@@ -107,7 +109,7 @@ module _ (r : Reading) (span : Span) (is : IsSpan r span) where
         omega arith,
         s.4,
         omega arith,
-      )) words pieces had
+      )) most words pieces had
 
   module _ (taken : List ℕ) (last : ℕ) (all : length taken + 1 ≡ span.words) where
     own : span.len - length (flat_map (to_be_bytes w64) taken)
@@ -146,7 +148,8 @@ module _ (r : Reading) (span : Span) (is : IsSpan r span) where
     pub leads_last : last < 2 ^ 64 → (p : Place) (bytes' : List ℕ)
         → All (λ b. b ≡ 0)
         (drop (span.len - length (flat_map (to_be_bytes w64) taken)) (to_be_bytes w64 last))
-        → IsAfter span.owner (span.left - (1 + span.words)) (span.room - 1) p → IsSound p bytes'
+        → IsAfter span.owner (span.left - (1 + span.words)) (span.room - 1) p
+        → IsSound r.most p bytes'
         → LeadsOn (midway r span taken) last
         (Some
         (piece.Item (record {
@@ -154,7 +157,7 @@ module _ (r : Reading) (span : Span) (is : IsSpan r span) where
           number = span.number;
           message = take span.len (flat_map (to_be_bytes w64) taken ++ to_be_bytes w64 last);
         }))) (record r { place = p; bytes = bytes' })
-    leads_last fits p bytes' none after sound words pieces had =
+    leads_last fits p bytes' none after sound most words pieces had =
         let bytes = flat_map (to_be_bytes w64) taken in
         let size = bytes_long taken in
         let s = had.sound in
@@ -164,7 +167,7 @@ module _ (r : Reading) (span : Span) (is : IsSpan r span) where
         ap (λ n. take n (bytes ++ to_be_bytes w64 last))
         (let e : span.len ≡ length bytes + k = let l = s.0 in omega arith in e)
         ∙ take-append-add bytes (to_be_bytes w64 last) k in
-        let takes = takes_last r.senders r.least last r.left span.owner
+        let takes = takes_last r.most r.senders r.least last r.left span.owner
         (span.left - (1 + length taken)) (span.room - 1) span.number span.len k bytes fits s.0 s.2
         s.3 s.4 own none p bytes' (let l = s.0 in omega arith)
         (subst (λ n. IsAfter span.owner n (span.room - 1) p)
@@ -175,16 +178,18 @@ module _ (r : Reading) (span : Span) (is : IsSpan r span) where
         (subst (λ m. Takes (midway r span taken) last
         (Some
         (piece.Item (record { sender = span.owner; number = span.number; message = m })))
-        (record r { place = p; bytes = bytes' })) (sym message) takes) (λ _. sound) words pieces had
+        (record r { place = p; bytes = bytes' })) (sym message) takes)
+        (λ _. sound) most words pieces had
 
     -- or it is padded with a byte
     pub stops_at : last < 2 ^ 64
         → (All (λ b. b ≡ 0)
         (drop (span.len - length (flat_map (to_be_bytes w64) taken)) (to_be_bytes w64 last)) → ⊥)
         → Stops (midway r span taken) last
-    stops_at fits set words pieces had =
+    stops_at fits set most words pieces had =
         let s = had.sound in
-        is_bad r.senders words pieces last (midway r span taken) (midway r span taken) had
-        (refuses_padding r.senders r.least last r.left span.owner (span.left - (1 + length taken))
+        is_bad most r.senders words pieces last (midway r span taken) (midway r span taken) had
+        (refuses_padding r.most r.senders r.least last r.left span.owner (span.left -
+        (1 + length taken))
         (span.room - 1) span.number span.len (span.len - length (flat_map (to_be_bytes w64) taken))
         (flat_map (to_be_bytes w64) taken) fits s.0 s.2 s.3 s.4 own set)

@@ -46,12 +46,12 @@ pub stands_between : (senders : ℕ) (words : List ℕ) (pieces : List (Option P
     → (is_between r.place ≡ true) ↔ (IsLog senders words × (list_any is_end pieces ≡ false))
 stands_between senders words pieces r had = (
   (λ at.
-      let log = between_is_log senders words pieces r had at in (
+      let log = between_is_log 16 senders words pieces r had at in (
         record { frames = log.frames; lawful = log.lawful; words_are = log.words_are },
-        between_goes_on senders words pieces r had at,
+        between_goes_on 16 senders words pieces r had at,
       )),
   (λ log. true_from_ne_false (is_between r.place) (λ not.
-      elim (outside_between senders words pieces r had not) [
+      elim (outside_between 16 senders words pieces r had not) [
         | inl torn ↦ torn log.0
         | inr ended ↦ true≢false (sym ended ∙ log.1)
       ])),
@@ -122,7 +122,7 @@ module _ (senders : ℕ) (f : Frame) (r : Reading) (lawful : IsFrame senders f)
 pub not_in_nothing : (senders : ℕ) (words : List ℕ) (pieces : List (Option Piece)) (r : Reading)
     (owner : SenderNo) (room : ℕ) → r.place ≡ Body owner 0 room → ¬ HasRead senders words pieces r
 not_in_nothing senders words pieces r owner room at had =
-    let sound = subst (λ p. IsSound p r.bytes) at had.sound in
+    let sound = subst (λ p. IsSound r.most p r.bytes) at had.sound in
     let some = sound.1 in absurd (omega arith)
 
 pub not_at_no_end : (senders : ℕ) (words : List ℕ) (pieces : List (Option Piece)) (r : Reading)
@@ -132,4 +132,4 @@ not_at_no_end senders words pieces r at none had = true≢false (sym (had.ended.
 pub not_before_the_end : (senders : ℕ) (words : List ℕ) (pieces : List (Option Piece)) (r : Reading)
     → r.place ≡ Between → list_any is_end pieces ≡ true → ¬ HasRead senders words pieces r
 not_before_the_end senders words pieces r at some had =
-    true≢false (sym some ∙ between_goes_on senders words pieces r had (ap is_between at))
+    true≢false (sym some ∙ between_goes_on 16 senders words pieces r had (ap is_between at))

@@ -14,9 +14,10 @@ use Rattle.bus_batch.specs.Reading.{Reading, IsSound}
 use Rattle.bus_batch.proofs.Bytes.{spread_len, takes_part}
 use Rattle.bus_batch.specs.Steps.{Steps, Takes, Refuses}
 
-abbrev pub reading : ℕ → ℕ → List Bool → Place → List ℕ → Reading
-reading senders least gone p bytes = record {
+abbrev pub reading : ℕ → ℕ → ℕ → List Bool → Place → List ℕ → Reading
+reading most senders least gone p bytes = record {
   senders = senders;
+  most = most;
   least = least;
   left = gone;
   place = p;
@@ -32,38 +33,42 @@ pub refused : (old new : Reading) (word : ℕ) → Refuses old word × (new ≡ 
 refused old new word refuses = record { good = tt; bad = refuses }
 
 -- a reader whose fields and place are known
-pub at_place : (senders least : ℕ) (gone : List Bool) (p q : Place) (bytes : List ℕ) (word : ℕ)
+pub at_place : (most senders least : ℕ) (gone : List Bool) (p q : Place) (bytes : List ℕ) (word : ℕ)
     (answer : Result (Option Piece) BadWord) (old new : Reading)
-    → reading senders least gone q bytes ≡ old → old.place ≡ p
-    → Steps (reading senders least gone p bytes) word answer new → Steps old word answer new
-at_place senders least gone p q bytes word answer old new is here steps =
+    → reading most senders least gone q bytes ≡ old → old.place ≡ p
+    → Steps (reading most senders least gone p bytes) word answer new → Steps old word answer new
+at_place most senders least gone p q bytes word answer old new is here steps =
     let at_q : q ≡ p = ap (λ (r : Reading). r.place) is ∙ here in
     subst (λ r. Steps r word answer new) is
-    (subst (λ z. Steps (reading senders least gone z bytes) word answer new) (sym at_q) steps)
+    (subst (λ z. Steps (reading most senders least gone z bytes) word answer new) (sym at_q) steps)
 
 -- where no log goes on with the word, such a reader stays as it is
 pub refuses_at :
-    (senders least : ℕ) (gone : List Bool) (p q : Place) (bytes : List ℕ) (word : ℕ) (old : Reading)
-    → reading senders least gone q bytes ≡ old → old.place ≡ p
-    → Refuses (reading senders least gone p bytes) word → Refuses old word
-refuses_at senders least gone p q bytes word old is here refuses =
+    (most senders least : ℕ) (gone : List Bool) (p q : Place) (bytes : List ℕ) (word : ℕ)
+    (old : Reading)
+    → reading most senders least gone q bytes ≡ old → old.place ≡ p
+    → Refuses (reading most senders least gone p bytes) word → Refuses old word
+refuses_at most senders least gone p q bytes word old is here refuses =
     let at_q : q ≡ p = ap (λ (r : Reading). r.place) is ∙ here in
     subst (λ r. Refuses r word) is
-    (subst (λ z. Refuses (reading senders least gone z bytes) word) (sym at_q) refuses)
+    (subst (λ z. Refuses (reading most senders least gone z bytes) word) (sym at_q) refuses)
 
-pub refused_at : (senders least : ℕ) (gone : List Bool) (p q : Place) (bytes : List ℕ) (word : ℕ)
+pub refused_at : (most senders least : ℕ) (gone : List Bool) (p q : Place) (bytes : List ℕ)
+    (word : ℕ)
     (old : Reading)
-    → reading senders least gone q bytes ≡ old → old.place ≡ p
-    → Refuses (reading senders least gone p bytes) word → Steps old word (Err (record {})) old
-refused_at senders least gone p q bytes word old is here refuses = refused old old word (
-  refuses_at senders least gone p q bytes word old is here refuses,
+    → reading most senders least gone q bytes ≡ old → old.place ≡ p
+    → Refuses (reading most senders least gone p bytes) word → Steps old word (Err (record {})) old
+refused_at most senders least gone p q bytes word old is here refuses = refused old old word (
+  refuses_at most senders least gone p q bytes word old is here refuses,
   refl,
 )
 
-pub sound_at : (senders least : ℕ) (gone : List Bool) (p q : Place) (bytes : List ℕ) (old : Reading)
-    → reading senders least gone q bytes ≡ old → old.place ≡ p → IsSound q bytes → IsSound p bytes
-sound_at senders least gone p q bytes old is here sound =
-    subst (λ z. IsSound z bytes) (ap (λ (r : Reading). r.place) is ∙ here) sound
+pub sound_at : (most senders least : ℕ) (gone : List Bool) (p q : Place) (bytes : List ℕ)
+    (old : Reading)
+    → reading most senders least gone q bytes ≡ old → old.place ≡ p → IsSound most q bytes
+    → IsSound most p bytes
+sound_at most senders least gone p q bytes old is here sound =
+    subst (λ z. IsSound most z bytes) (ap (λ (r : Reading). r.place) is ∙ here) sound
 
 -- the zero bytes of a data word
 pub zero_rest : (k word : ℕ) (bytes : List ℕ) → bytes ≡ to_be_bytes w64 word
@@ -90,19 +95,23 @@ none_left : (word : ℕ) → All (λ b. b ≡ 0) (drop 8 (to_be_bytes w64 word))
 none_left word i d below =
     absurd (let e = length-drop 8 (to_be_bytes w64 word) in let e' = spread_len word in omega arith)
 
-pub takes_eight : (senders least word : ℕ) (gone : List Bool) (owner : SenderNo)
+pub takes_eight : (most senders least word : ℕ) (gone : List Bool) (owner : SenderNo)
     (left room number len : ℕ) (bytes : List ℕ) → word < 2 ^ 64
     → data_len (len - length bytes) ≤ left → left ≤ data_len (len - length bytes) + 8 * room
-    → room < 16 → length bytes + 8 < len
-    → Steps (reading senders least gone (place.Data owner left room number len) bytes) word
-    (Ok None) (reading senders least gone (place.Data owner (left - 1) room number len)
+    → room < most → length bytes + 8 < len
+    → Steps (reading most senders least gone (place.Data owner left room number len) bytes) word
+    (Ok None) (reading most senders least gone (place.Data owner (left - 1) room number len)
     (bytes ++ to_be_bytes w64 word))
-takes_eight senders least word gone owner left room number len bytes fits within fillable few more =
+takes_eight most senders least word gone owner left room number len bytes fits within fillable few
+    more =
     let all : take 8 (to_be_bytes w64 word) ≡ to_be_bytes w64 word =
     take_all 8 (to_be_bytes w64 word) (let e = spread_len word in omega arith) in
     good _ _ word None
-    (subst (λ z. Takes (reading senders least gone (place.Data owner left room number len) bytes)
+    (subst (λ z. Takes (reading most senders least gone (place.Data owner left room number len)
+    bytes)
     word None
-    (reading senders least gone (place.Data owner (left - 1) room number len) (bytes ++ z))) all
-    (takes_part senders least word gone owner left room number len 8 bytes fits (omega arith) within
+    (reading most senders least gone (place.Data owner (left - 1) room number len) (bytes
+    ++ z))) all
+    (takes_part most senders least word gone owner left room number len 8 bytes fits
+    (omega arith) within
     fillable few (omega arith) (none_left word) (omega arith)))

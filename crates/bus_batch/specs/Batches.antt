@@ -14,10 +14,11 @@ use Rattle.bus_batch.specs.declared.batches.CloseFault.TheVariants as close
 use Rattle.bus_batch.specs.Messages.{IsMessage, numbered_messages}
 use Rattle.bus_batch.specs.Frames.{Frame, Body, Messages, Marked, data_len}
 
--- a sender's batch: its messages, numbered from first on, whether it accepts more, and whether they
--- are on their way
+-- a sender's batch: how many messages it may have, these, numbered from first on, whether it
+-- accepts more, and whether they are on their way
 pub record Pending : Type 0 where
   pub sender : SenderNo
+  pub limit : ℕ
   pub first : ℕ
   pub messages : List (List ℕ)
   pub phase : Phase
@@ -66,7 +67,7 @@ pub record CanPut (b : Pending) (len : ℕ) : Type 0 where
   pub is_open : b.phase ≡ Open
   pub idle : b.busy ≡ false
   pub short : len ≤ MOST_BYTES
-  pub room : length b.messages < MOST_MESSAGES
+  pub room : length b.messages < b.limit
 
 -- why a message of so many bytes is refused: each fault where its cause holds and no earlier one
 abbrev pub IsPutFault : Pending → ℕ → PutFault → Type 0
@@ -74,7 +75,7 @@ IsPutFault b len put.Closed = IsShut b
 IsPutFault b len put.Busy = (b.phase ≡ Open) × (b.busy ≡ true)
 IsPutFault b len put.TooLong = (b.phase ≡ Open) × (b.busy ≡ false) × (MOST_BYTES < len)
 IsPutFault b len put.BatchFull =
-    (b.phase ≡ Open) × (b.busy ≡ false) × (len ≤ MOST_BYTES) × (length b.messages ≡ MOST_MESSAGES)
+    (b.phase ≡ Open) × (b.busy ≡ false) × (len ≤ MOST_BYTES) × (length b.messages ≡ b.limit)
 
 -- a close or a leave is taken
 pub record CanClose (b : Pending) : Type 0 where
@@ -96,7 +97,9 @@ phase_sent Closed = Closed
 
 -- what a batch always keeps
 pub record IsKept (b : Pending) : Type 0 where
-  pub few : length b.messages ≤ MOST_MESSAGES
+  pub limit_some : 1 ≤ b.limit
+  pub limit_few : b.limit ≤ MOST_MESSAGES
+  pub few : length b.messages ≤ b.limit
   pub each : All IsMessage b.messages
   pub numbers : next_of b ≤ NUMBERS
   pub alone : (mark : Mark) → b.phase ≡ Marking mark → b.messages ≡ []

@@ -9,7 +9,7 @@ abbrev pub put_fault_text : PutFault → List ℕ
 put_fault_text put.Closed = codes "closed"
 put_fault_text put.Busy = codes "the batch is on its way"
 put_fault_text put.TooLong = codes "more than 56 bytes"
-put_fault_text put.BatchFull = codes "16 messages wait"
+put_fault_text put.BatchFull = codes "the batch is full"
 
 abbrev pub close_fault_text : CloseFault → List ℕ
 close_fault_text close.Closed = codes "closed"

@@ -79,30 +79,43 @@ log_words frames = flat_map frame_words frames
 
 -- ---- frames of a log
 
--- 1 to 16 messages, or a mark
-abbrev pub IsBody : Body → Type 0
-IsBody (Messages messages) =
-    (0 < length messages) × (length messages ≤ MOST_MESSAGES) × All IsNumbered messages
-IsBody (Marked mark) = Unit {0}
+-- 1 to so many messages, or a mark
+abbrev pub IsBodyOf : ℕ → Body → Type 0
+IsBodyOf most (Messages messages) =
+    (0 < length messages) × (length messages ≤ most) × All IsNumbered messages
+IsBodyOf most (Marked mark) = Unit {0}
 
-pub record IsFrame (senders : ℕ) (f : Frame) : Type 0 where
+pub record IsFrameOf (most senders : ℕ) (f : Frame) : Type 0 where
   pub tenure : f.tenure < TENURES
   pub owner : f.owner.0 < senders
   pub owner_bits : f.owner.0 < 2 ^ 8
-  pub body : IsBody f.body
+  pub body : IsBodyOf most f.body
 
 -- frames whose tenures rise strictly, the first not below least; nothing follows an end mark, and
 -- no frame of its owner a leave mark
-abbrev pub AreFramesFrom : ℕ → ℕ → List Frame → Type 0
-AreFramesFrom senders least [] = Unit {0}
-AreFramesFrom senders least (f ∷ frames) =
-    IsFrame senders f × (least ≤ f.tenure) × (f.body ≡ Marked mark.End → frames ≡ [])
-    × AreFramesFrom senders (f.tenure + 1) frames
+abbrev pub AreFramesFromOf : ℕ → ℕ → ℕ → List Frame → Type 0
+AreFramesFromOf most senders least [] = Unit {0}
+AreFramesFromOf most senders least (f ∷ frames) =
+    IsFrameOf most senders f × (least ≤ f.tenure) × (f.body ≡ Marked mark.End → frames ≡ [])
+    × AreFramesFromOf most senders (f.tenure + 1) frames
     × (f.body ≡ Marked mark.Leave → All (λ g. g.owner ≢ f.owner) frames)
 
--- the frames of a log of so many senders
+-- the frames of a log of so many senders, with so many messages in a frame at most
+abbrev pub AreFramesOf : ℕ → ℕ → List Frame → Type 0
+AreFramesOf most senders frames = AreFramesFromOf most senders 0 frames
+
+-- the same with as many messages as any frame may have
+abbrev pub IsBody : Body → Type 0
+IsBody b = IsBodyOf MOST_MESSAGES b
+
+abbrev pub IsFrame : ℕ → Frame → Type 0
+IsFrame senders f = IsFrameOf MOST_MESSAGES senders f
+
+abbrev pub AreFramesFrom : ℕ → ℕ → List Frame → Type 0
+AreFramesFrom senders least frames = AreFramesFromOf MOST_MESSAGES senders least frames
+
 abbrev pub AreFrames : ℕ → List Frame → Type 0
-AreFrames senders frames = AreFramesFrom senders 0 frames
+AreFrames senders frames = AreFramesOf MOST_MESSAGES senders frames
 
 -- ---- what a log says
 
@@ -178,28 +191,41 @@ order_of frames = record { entries = flat_map entries_of frames; ended = has_end
 abbrev pub tenure_and_owner : Frame → ℕ × SenderNo
 tenure_and_owner f = (f.tenure, f.owner)
 
--- these words are a log of this order, whose frames have these tenures and owners
-pub record Spells (senders : ℕ) (words : List ℕ) (order : Order) (owners : List (ℕ × SenderNo)) :
-    Type 0 where
+-- these words are a log of this order, whose frames have these tenures and owners, and so many
+-- messages at most
+pub record SpellsOf (most senders : ℕ) (words : List ℕ) (order : Order)
+    (owners : List (ℕ × SenderNo)) : Type 0 where
   pub frames : List Frame
-  pub lawful : AreFrames senders frames
+  pub lawful : AreFramesOf most senders frames
   pub words_are : log_words frames ≡ words
   pub order_is : order_of frames ≡ order
   pub owners_are : map tenure_and_owner frames ≡ owners
 
+abbrev pub Spells : ℕ → List ℕ → Order → List (ℕ × SenderNo) → Type 0
+Spells senders words order owners = SpellsOf MOST_MESSAGES senders words order owners
+
 -- these words are a whole log
-pub record IsLog (senders : ℕ) (words : List ℕ) : Type 0 where
+pub record IsLogOf (most senders : ℕ) (words : List ℕ) : Type 0 where
   pub frames : List Frame
-  pub lawful : AreFrames senders frames
+  pub lawful : AreFramesOf most senders frames
   pub words_are : log_words frames ≡ words
 
+abbrev pub IsLog : ℕ → List ℕ → Type 0
+IsLog senders words = IsLogOf MOST_MESSAGES senders words
+
 -- some log begins with these words
+abbrev pub BeginsLogOf : ℕ → ℕ → List ℕ → Type 0
+BeginsLogOf most senders words = (rest : List ℕ) × IsLogOf most senders (words ++ rest)
+
 abbrev pub BeginsLog : ℕ → List ℕ → Type 0
-BeginsLog senders words = (rest : List ℕ) × IsLog senders (words ++ rest)
+BeginsLog senders words = BeginsLogOf MOST_MESSAGES senders words
 
 -- a word is bad after others where no log begins with them and then this word
+abbrev pub IsBadWordOf : ℕ → ℕ → List ℕ → ℕ → Type 0
+IsBadWordOf most senders words word = ¬ BeginsLogOf most senders (words ++ word ∷ [])
+
 abbrev pub IsBadWord : ℕ → List ℕ → ℕ → Type 0
-IsBadWord senders words word = ¬ BeginsLog senders (words ++ word ∷ [])
+IsBadWord senders words word = IsBadWordOf MOST_MESSAGES senders words word
 
 -- ---- what each word of a log gives
 
@@ -225,11 +251,14 @@ abbrev pub log_pieces : List Frame → List (Option Piece)
 log_pieces frames = flat_map frame_pieces frames
 
 -- what a word gives after others: each log that begins with them and then this word has it there
-abbrev pub GivesPiece : ℕ → List ℕ → ℕ → Option Piece → Type 0
-GivesPiece senders words word found =
-    (frames : List Frame) (rest : List ℕ) → AreFrames senders frames
+abbrev pub GivesPieceOf : ℕ → ℕ → List ℕ → ℕ → Option Piece → Type 0
+GivesPieceOf most senders words word found =
+    (frames : List Frame) (rest : List ℕ) → AreFramesOf most senders frames
     → log_words frames ≡ words ++ word ∷ rest
     → slice_get (log_pieces frames) (length words) ≡ Some found
+
+abbrev pub GivesPiece : ℕ → List ℕ → ℕ → Option Piece → Type 0
+GivesPiece senders words word found = GivesPieceOf MOST_MESSAGES senders words word found
 
 -- ---- what pieces say together
 

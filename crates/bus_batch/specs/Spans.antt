@@ -3,13 +3,12 @@ use Rattle.std.specs.Prelude.{◌≡◌, ℕ, ◌+◌, ◌-◌, ◌*◌, ◌^◌
 use Rattle.std.specs.Prelude.{flat_map, Option, None}
 use Rattle.std.specs.Int.{w64, to_be_bytes}
 use Rattle.bus_register.specs.declared.limits.TheConstants.{MOST_BYTES, MOST_MESSAGE_WORDS}
-use Rattle.bus_register.specs.declared.limits.TheConstants.{MOST_MESSAGES}
 use Rattle.bus_batch.specs.declared.messages.Item.{Item}
 use Rattle.bus_batch.specs.declared.messages.Piece.{Piece}
 use Rattle.bus_batch.specs.declared.readers.Place.TheVariants.{Body, Data}
 use Rattle.bus_batch.specs.declared.readers.Span.{Span}
-use Rattle.bus_batch.specs.Frames.{GivesPiece, IsBadWord, data_len}
-use Rattle.bus_batch.specs.Reading.{Reading, HasRead}
+use Rattle.bus_batch.specs.Frames.{GivesPieceOf, IsBadWordOf, data_len}
+use Rattle.bus_batch.specs.Reading.{Reading, HasReadOf}
 
 -- a message with bytes in its place: the frame has words enough for it, and what is left of it then
 -- can be filled
@@ -19,7 +18,7 @@ pub record IsSpan (r : Reading) (span : Span) : Type 0 where
   pub words : span.words ≡ data_len span.len
   pub some : 0 < span.len
   pub most : span.len ≤ MOST_BYTES
-  pub room : (1 ≤ span.room) × (span.room ≤ MOST_MESSAGES)
+  pub room : (1 ≤ span.room) × (span.room ≤ r.most)
   pub enough : 1 + span.words ≤ span.left
   pub fillable : span.left - (1 + span.words) ≤ MOST_MESSAGE_WORDS * (span.room - 1)
 
@@ -33,15 +32,16 @@ midway r span taken = record r {
 -- whatever was read before, a word gives this piece, and leads from one reader to the other
 abbrev pub LeadsOn : Reading → ℕ → Option Piece → Reading → Type 0
 LeadsOn old word found new =
-    (words : List ℕ) (pieces : List (Option Piece)) → HasRead old.senders words pieces old
-    → GivesPiece old.senders words word found
-    × HasRead old.senders (words ++ word ∷ []) (pieces ++ found ∷ []) new
+    (most : ℕ) (words : List ℕ) (pieces : List (Option Piece))
+    → HasReadOf most old.senders words pieces old
+    → GivesPieceOf most old.senders words word found
+    × HasReadOf most old.senders (words ++ word ∷ []) (pieces ++ found ∷ []) new
 
 -- and no log goes on with it
 abbrev pub Stops : Reading → ℕ → Type 0
 Stops old word =
-    (words : List ℕ) (pieces : List (Option Piece)) → HasRead old.senders words pieces old
-    → IsBadWord old.senders words word
+    (most : ℕ) (words : List ℕ) (pieces : List (Option Piece))
+    → HasReadOf most old.senders words pieces old → IsBadWordOf most old.senders words word
 
 -- any word of the message's bytes but the last says nothing by itself
 abbrev pub GoesOnWithin : Reading → Span → Type 0

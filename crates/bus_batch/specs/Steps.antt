@@ -1,8 +1,8 @@
 -- What the words of a log are made of, one by one, and what one word does to a reader.
-use Rattle.std.specs.Prelude.{◌≡◌, ℕ, ◌<◌, ◌≤◌, ◌^◌, List, ◌∷◌, Option, Result, IfOk, OnErr}
+use Rattle.std.specs.Prelude.{◌≡◌, ℕ, ◌*◌, ◌<◌, ◌≤◌, ◌^◌, List, ◌∷◌, Option, Result, IfOk, OnErr}
 use Rattle.std.specs.Prelude.{◌↔◌, true}
-use Rattle.bus_register.specs.declared.limits.TheConstants.{MOST_BODY_WORDS, TENURES, MOST_BYTES}
-use Rattle.bus_register.specs.declared.limits.TheConstants.{NUMBERS}
+use Rattle.bus_register.specs.declared.limits.TheConstants.{MOST_MESSAGE_WORDS, TENURES}
+use Rattle.bus_register.specs.declared.limits.TheConstants.{MOST_BYTES, NUMBERS}
 use Rattle.bus_batch.specs.declared.messages.Piece.{Piece}
 use Rattle.bus_batch.specs.declared.readers.BadWord.{BadWord}
 use Rattle.bus_batch.specs.declared.readers.Head.{Head}
@@ -13,13 +13,14 @@ use Rattle.bus_batch.specs.declared.readers.Length.{Length}
 use Rattle.bus_batch.specs.Frames.{head_word, message_word, is_end}
 use Rattle.bus_batch.specs.Reading.{Reading, Awaits}
 
--- a word is this head, of one of so many senders and of a tenure not below least
-pub record IsHead (senders least word : ℕ) (h : Head) : Type 0 where
+-- a word is this head, of a frame of so many messages at most, of one of so many senders and of a
+-- tenure not below least
+pub record IsHead (most senders least word : ℕ) (h : Head) : Type 0 where
   pub is : word ≡ head_word h.owner.0 h.count h.tenure
   pub owner : h.owner.0 < senders
   pub owner_bits : h.owner.0 < 2 ^ 8
   pub some : 1 ≤ h.count
-  pub most : h.count ≤ MOST_BODY_WORDS
+  pub fillable : h.count ≤ MOST_MESSAGE_WORDS * most
   pub late : least ≤ h.tenure
   pub tenure : h.tenure < TENURES
 
@@ -31,6 +32,7 @@ pub record IsMessageWord (word : ℕ) (m : Length) : Type 0 where
 
 -- a word that gave this piece, or nothing, has led from one reader to the other
 pub record Takes (old : Reading) (word : ℕ) (found : Option Piece) (new : Reading) : Type 0 where
+  pub limit : new.most ≡ old.most
   pub leads : (rest : List ℕ) (pieces : List (Option Piece)) → Awaits new rest pieces
       → Awaits old (word ∷ rest) (found ∷ pieces)
   pub covers : (rest : List ℕ) (pieces : List (Option Piece)) → Awaits old (word ∷ rest) pieces

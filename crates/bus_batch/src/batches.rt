@@ -5,7 +5,7 @@ ghost use Rattle.std.specs.Prelude.{◌≤◌, ◌^◌, List, [], ◌∷◌, ◌
 ghost use Rattle.std.specs.Prelude.{drop, IfOk, IfErr, OnOk, OnErr, IsTrue, ◌↔◌, false, true};
 ghost use Rattle.std.specs.Prelude.{Some, slice_get};
 ghost use Rattle.bus_batch.specs.Messages.{Numbered, IsMessage};
-ghost use Rattle.bus_batch.specs.Frames.{data_word, message_words, frame_words, IsFrame};
+ghost use Rattle.bus_batch.specs.Frames.{data_word, message_words, frame_words, IsFrame, IsFrameOf};
 ghost use Rattle.bus_batch.specs.Frames.{body_words};
 ghost use Rattle.std.specs.Prelude.{flat_map, take};
 ghost use Rattle.std.specs.Int.{w64, to_be_bytes};
@@ -32,7 +32,7 @@ pub enum PutFault {
     Busy,
     /// More than 56 bytes.
     TooLong,
-    /// 16 messages wait.
+    /// As many messages wait as this batch may have.
     BatchFull,
 }
 
@@ -56,11 +56,13 @@ pub enum Phase {
     Closed,
 }
 
-/// At most 16 messages of one sender, numbered one after another, that go into the log together;
-/// or a mark alone: of the end, or that the sender leaves.
+/// Some messages of one sender, numbered one after another, that go into the log together; or a
+/// mark alone: of the end, or that the sender leaves.
 #[derive(Debug, Drop)]
 pub struct Batch {
     sender: SenderNo,
+    /// So many messages at most, 1 to 16.
+    limit: u64,
     first: u64,
     /// How many messages wait.
     count: u64,
@@ -82,6 +84,7 @@ impl Model for Batch {
 
     ghost view = { λ b. record {
       sender = b.sender;
+      limit = b.limit;
       first = b.first;
       messages = spelled b.count b.body.items;
       phase = b.phase;
@@ -90,6 +93,7 @@ impl Model for Batch {
 
     ghost invariant = { λ b. IsKept (record {
       sender = b.sender;
+      limit = b.limit;
       first = b.first;
       messages = spelled b.count b.body.items;
       phase = b.phase;
@@ -109,11 +113,14 @@ impl Batch {
     ghost use Rattle.bus_batch.specs.Batches.{CanPut, IsPutFault, CanClose, IsCloseFault};
     ghost use Rattle.bus_batch.specs.Batches.{phase_sent};
 
-    /// An empty batch of a sender whose next message has the number `next`.
-    pub fn new(sender: SenderNo, next: u64) -> Batch
-        requires { next ≤ NUMBERS }
+    /// An empty batch of a sender whose next message has the number `next`; it takes so many
+    /// messages, 1 to 16, before it is full.
+    pub fn new(sender: SenderNo, next: u64, limit: u64) -> Batch
+        requires number { next ≤ NUMBERS }
+        requires limit { (1 ≤ limit) × (limit ≤ MOST_MESSAGES) }
         ensures { result ≡ record {
           sender = sender;
+          limit = limit;
           first = next;
           messages = [];
           phase = phase.Open;
@@ -122,6 +129,7 @@ impl Batch {
     {
         Batch {
             sender,
+            limit,
             first: next,
             count: 0,
             phase: Phase::Open,
@@ -133,9 +141,19 @@ impl Batch {
     /// How many messages wait.
     pub fn len(&self) -> u64
         ensures len { result ≡ length self.now.messages }
-        ensures few { result ≤ MOST_MESSAGES }
+        ensures few { result ≤ self.now.limit }
+        ensures most { result ≤ MOST_MESSAGES }
     {
         self.count
+    }
+
+    /// How many messages may wait: 1 to 16.
+    pub fn limit(&self) -> u64
+        ensures limit { result ≡ self.now.limit }
+        ensures some { 1 ≤ result }
+        ensures few { result ≤ MOST_MESSAGES }
+    {
+        self.limit
     }
 
     /// No message waits.
@@ -220,7 +238,7 @@ impl Batch {
         if bytes.len() > MOST_BYTES {
             return Err(PutFault::TooLong);
         }
-        if self.count == MOST_MESSAGES as u64 {
+        if self.count == self.limit {
             return Err(PutFault::BatchFull);
         }
         let number = self.first + self.count;
@@ -293,8 +311,7 @@ impl Batch {
     /// The contents were sent.
     pub fn done(&mut self)
         requires { self.old.busy ≡ true }
-        ensures { self.new ≡ record {
-          sender = self.old.sender;
+        ensures { self.new ≡ record self.old {
           first = next_of self.old;
           messages = [];
           phase = phase_sent self.old.phase;
@@ -327,9 +344,12 @@ impl Batch {
         ensures least { 2 ≤ result }
         ensures most { result ≤ 1 + MOST_BODY_WORDS }
 
-        // In each tenure the frame is one that a log may have.
+        // In each tenure the frame is one that a log may have, of no more messages than this batch
+        // may have.
         ensures lawful { (senders : ℕ) (tenure : ℕ) → self.now.sender.0 < senders
             → tenure < TENURES → IsFrame senders (frame_of self.now tenure) }
+        ensures limited { (senders : ℕ) (tenure : ℕ) → self.now.sender.0 < senders
+            → tenure < TENURES → IsFrameOf self.now.limit senders (frame_of self.now tenure) }
     {
         let _kept = &self.first;
         1 + self.body_len()

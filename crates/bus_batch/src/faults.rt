@@ -17,7 +17,7 @@ impl fmt::Display for PutFault {
             PutFault::Closed => "closed",
             PutFault::Busy => "the batch is on its way",
             PutFault::TooLong => "more than 56 bytes",
-            PutFault::BatchFull => "16 messages wait",
+            PutFault::BatchFull => "the batch is full",
         })
     }
 }

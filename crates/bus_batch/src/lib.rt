@@ -7,7 +7,7 @@
 //! use bus_batch::Batch;
 //! use bus_register::SenderNo;
 //!
-//! let mut batch = Batch::new(SenderNo(1), 0);
+//! let mut batch = Batch::new(SenderNo(1), 0, 16);
 //! assert_eq!(rt; batch.put(b"a"), Ok(0));
 //! assert_eq!(rt; batch.put(b""), Ok(1));
 //! assert_eq!(rt; batch.frame_len(), 4);

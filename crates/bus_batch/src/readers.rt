@@ -10,9 +10,7 @@ ghost use Rattle.bus_batch.specs.Frames.{data_len};
 use crate::messages::{Item, Message, Piece};
 use crate::words::{COUNT, END, HIGH, LEAVE, TAG};
 use bus_register::SenderNo;
-use bus_register::limits::{
-    MOST_BODY_WORDS, MOST_BYTES, MOST_MESSAGE_WORDS, MOST_MESSAGES, NUMBERS,
-};
+use bus_register::limits::{MOST_BYTES, MOST_MESSAGE_WORDS, MOST_MESSAGES, NUMBERS};
 use std::marker::Model;
 
 /// No log goes on with this word.
@@ -81,16 +79,19 @@ const BATCH_MESSAGES: u64 = MOST_MESSAGES as u64;
 
 ghost use Rattle.bus_batch.specs.Steps.{IsHead, IsMessageWord, IsAfter};
 
-/// The head that a word is, of one of so many senders and of a tenure not below `least`.
-fn head_of(word: u64, senders: u64, least: u64) -> Option<Head>
-    ensures some { IfSome result (IsHead senders least word) }
-    ensures none { IfNone result ((h : _) → ¬ IsHead senders least word h) }
+/// The head that a word is, of a frame of so many messages at most, of one of so many senders and
+/// of a tenure not below `least`.
+fn head_of(word: u64, most: u64, senders: u64, least: u64) -> Option<Head>
+    requires { most ≤ MOST_MESSAGES }
+    ensures some { IfSome result (IsHead most senders least word) }
+    ensures none { IfNone result ((h : _) → ¬ IsHead most senders least word h) }
 {
     let tag = word / TAG;
     let owner = word % TAG / HIGH;
     let count = word % HIGH / COUNT;
     let tenure = word % COUNT;
-    if tag == 1 && owner < senders && count >= 1 && count <= MOST_BODY_WORDS && tenure >= least {
+    let fillable = 1 <= count && count <= MOST_MESSAGE_WORDS * most;
+    if tag == 1 && owner < senders && fillable && tenure >= least {
         Some(Head {
             tenure,
             owner: SenderNo(owner as u8),
@@ -122,6 +123,8 @@ fn message_of(word: u64) -> Option<Length>
 #[derive(Debug, Drop)]
 pub struct FrameReader {
     senders: u64,
+    /// The messages of a frame: at most so many, 1 to 16.
+    most: u64,
     least: u64,
     /// Who has left, by number: for each owner that a head can name.
     left: [bool; OWNERS],
@@ -130,41 +133,56 @@ pub struct FrameReader {
 }
 
 impl Model for FrameReader {
-    ghost use Rattle.std.specs.Prelude.{◌≡◌};
+    ghost use Rattle.std.specs.Prelude.{◌≤◌};
+    ghost use Rattle.bus_register.specs.declared.limits.TheConstants.{MOST_MESSAGES};
     ghost use Rattle.bus_batch.specs.Reading.{Reading, IsSound};
 
     ghost Value = { Reading };
 
     ghost view = { λ r. record {
       senders = r.senders;
+      most = r.most;
       least = r.least;
       left = r.left;
       place = r.place;
       bytes = r.bytes;
     } };
 
-    ghost invariant = { λ r. IsSound r.place r.bytes };
+    ghost invariant = { λ r. IsSound r.most r.place r.bytes × (1 ≤ r.most)
+        × (r.most ≤ MOST_MESSAGES) };
 }
 
 impl FrameReader {
     ghost use Rattle.bus_batch.specs.declared.readers.Place.TheVariants as place;
-    ghost use Rattle.bus_batch.specs.Frames.{IsBadWord, GivesPiece, IsLog, Spells, order_in};
+    ghost use Rattle.bus_batch.specs.Frames.{IsBadWordOf, GivesPieceOf, IsLogOf, SpellsOf};
+    ghost use Rattle.bus_batch.specs.Frames.{order_in};
     ghost use Rattle.bus_batch.specs.Frames.{owners_in, end_word, mark_word};
     ghost use Rattle.bus_batch.specs.declared.messages.Mark.TheVariants as mark;
-    ghost use Rattle.bus_batch.specs.Reading.{HasRead, HasMetBadWord, is_between};
-    ghost use Rattle.bus_batch.specs.Reading.{IsTornOrEnded, IsSound};
+    ghost use Rattle.bus_batch.specs.Reading.{HasRead, HasReadOf, HasMetBadWord, is_between};
+    ghost use Rattle.bus_batch.specs.Reading.{IsTornOrEndedOf, IsSound};
     ghost use Rattle.bus_batch.specs.declared.messages.Piece.TheVariants as piece;
     ghost use Rattle.bus_batch.specs.Steps.{Steps, Refuses};
     ghost use Rattle.bus_batch.specs.Reading.{words_left};
     ghost use Rattle.bus_batch.specs.Spans.{IsSpan, LeadsOn, Stops, GoesOnWithin, HasBytes, midway};
 
-    /// A reader of a log of so many senders, before its first word.
+    /// A reader of a log of so many senders, before its first word: a frame may have as many
+    /// messages as any.
     pub fn new(senders: u64) -> FrameReader
         ensures senders { result.senders ≡ senders }
         ensures read { HasRead senders [] [] result }
     {
+        FrameReader::within(senders, BATCH_MESSAGES)
+    }
+
+    /// The same of a log whose frames have so many messages at most, 1 to 16.
+    pub fn within(senders: u64, most: u64) -> FrameReader
+        requires most { (1 ≤ most) × (most ≤ MOST_MESSAGES) }
+        ensures senders { result.senders ≡ senders }
+        ensures read { HasReadOf most senders [] [] result }
+    {
         FrameReader {
             senders,
+            most,
             least: 0,
             left: nobody(),
             place: Place::Between,
@@ -178,6 +196,7 @@ impl FrameReader {
     {
         FrameReader {
             senders: self.senders,
+            most: self.most,
             least: self.least,
             left: self.left,
             place: self.place,
@@ -188,12 +207,14 @@ impl FrameReader {
     /// The words so far end within a frame: they begin a log and are none. After a bad word it
     /// answers no.
     pub fn inside(&self) -> bool
-        ensures torn { (words : _) (pieces : _) → HasRead self.now.senders words pieces self.now
-            → IsTrue result → ¬ IsLog self.now.senders words }
+        ensures torn { (most : _) (words : _) (pieces : _) → HasReadOf most self.now.senders words
+            pieces self.now
+            → IsTrue result → ¬ IsLogOf most self.now.senders words }
         // Outside the words are a log, and the pieces say its order and owners.
-        ensures whole { (words : _) (pieces : _) → HasRead self.now.senders words pieces self.now
+        ensures whole { (most : _) (words : _) (pieces : _) → HasReadOf most self.now.senders words
+            pieces self.now
             → result ≡ false
-            → Spells self.now.senders words (order_in pieces) (owners_in pieces) }
+            → SpellsOf most self.now.senders words (order_in pieces) (owners_in pieces) }
         ensures met { HasMetBadWord self.now → result ≡ false }
     {
         matches!(self.place, Place::Body { .. } | Place::Data { .. })
@@ -203,13 +224,15 @@ impl FrameReader {
     pub fn is_between(&self) -> bool
         ensures between { result ≡ is_between self.now.place }
         // The words so far are a log that has not ended, and the pieces say its order and owners.
-        ensures log { (words : _) (pieces : _) → HasRead self.now.senders words pieces self.now
+        ensures log { (most : _) (words : _) (pieces : _) → HasReadOf most self.now.senders words
+            pieces self.now
             → IsTrue result
-            → Spells self.now.senders words (order_in pieces) (owners_in pieces)
+            → SpellsOf most self.now.senders words (order_in pieces) (owners_in pieces)
             × ((order_in pieces).ended ≡ false) }
         // Else they are none, or it has ended.
-        ensures within { (words : _) (pieces : _) → HasRead self.now.senders words pieces self.now
-            → result ≡ false → IsTornOrEnded self.now.senders words pieces }
+        ensures within { (most : _) (words : _) (pieces : _) → HasReadOf most self.now.senders
+            words pieces self.now
+            → result ≡ false → IsTornOrEndedOf most self.now.senders words pieces }
     {
         matches!(self.place, Place::Between)
     }
@@ -218,10 +241,10 @@ impl FrameReader {
     fn take_head(&mut self, word: u64) -> Result<Option<Piece>, BadWord>
         requires { self.old.place ≡ place.Between }
         ensures senders { self.new.senders ≡ self.old.senders }
-        ensures sound { IsSound self.new.place self.new.bytes }
+        ensures sound { IsSound self.new.most self.new.place self.new.bytes }
         ensures steps { Steps self.old word result self.new }
     {
-        match head_of(word, self.senders, self.least) {
+        match head_of(word, self.most, self.senders, self.least) {
             Some(head) => {
                 if self.left[head.owner.0 as usize] {
                     return Err(BadWord);
@@ -230,7 +253,7 @@ impl FrameReader {
                 self.place = Place::Body {
                     owner: head.owner,
                     left: head.count,
-                    room: BATCH_MESSAGES,
+                    room: self.most,
                 };
                 Ok(Some(Piece::Head {
                     tenure: head.tenure,
@@ -251,7 +274,7 @@ impl FrameReader {
     ) -> Result<Option<Piece>, BadWord>
         requires { self.old.place ≡ place.Body owner left room }
         ensures senders { self.new.senders ≡ self.old.senders }
-        ensures sound { IsSound self.new.place self.new.bytes }
+        ensures sound { IsSound self.new.most self.new.place self.new.bytes }
         ensures steps { Steps self.old word result self.new }
     {
         let _held = &self.bytes;
@@ -275,7 +298,7 @@ impl FrameReader {
         requires place { self.old.place ≡ place.Body owner left room }
         requires word { end_word ≤ word }
         ensures senders { self.new.senders ≡ self.old.senders }
-        ensures sound { IsSound self.new.place self.new.bytes }
+        ensures sound { IsSound self.new.most self.new.place self.new.bytes }
         ensures steps { Steps self.old word result self.new }
     {
         let _held = &self.bytes;
@@ -299,10 +322,11 @@ impl FrameReader {
         requires place { self.old.place ≡ place.Body owner left room }
         requires word { word ≡ end_word }
         ensures senders { self.new.senders ≡ self.old.senders }
-        ensures sound { IsSound self.new.place self.new.bytes }
+        ensures sound { IsSound self.new.most self.new.place self.new.bytes }
         ensures steps { Steps self.old word result self.new }
     {
-        if left == 1 && room == BATCH_MESSAGES {
+        let most = self.most;
+        if left == 1 && room == most {
             self.place = Place::Ended;
             Ok(Some(Piece::End))
         } else {
@@ -321,11 +345,12 @@ impl FrameReader {
         requires place { self.old.place ≡ place.Body owner left room }
         requires word { word ≡ mark_word mark.Leave }
         ensures senders { self.new.senders ≡ self.old.senders }
-        ensures sound { IsSound self.new.place self.new.bytes }
+        ensures sound { IsSound self.new.most self.new.place self.new.bytes }
         ensures steps { Steps self.old word result self.new }
     {
         let _held = &self.bytes;
-        if left == 1 && room == BATCH_MESSAGES {
+        let most = self.most;
+        if left == 1 && room == most {
             self.left[owner.0 as usize] = true;
             self.place = Place::Between;
             Ok(Some(Piece::Leave(owner)))
@@ -346,7 +371,7 @@ impl FrameReader {
         requires place { self.old.place ≡ place.Body owner left room }
         requires word { IsMessageWord word length }
         ensures senders { self.new.senders ≡ self.old.senders }
-        ensures sound { IsSound self.new.place self.new.bytes }
+        ensures sound { IsSound self.new.most self.new.place self.new.bytes }
         ensures steps { Steps self.old word result self.new }
     {
         let _held = &self.bytes;
@@ -383,7 +408,7 @@ impl FrameReader {
         requires word { IsMessageWord word length }
         requires some { 0 < length.len }
         ensures senders { self.new.senders ≡ self.old.senders }
-        ensures sound { IsSound self.new.place self.new.bytes }
+        ensures sound { IsSound self.new.most self.new.place self.new.bytes }
         ensures good { IsTrue result → Steps self.old word (Ok None) self.new }
         ensures bad { result ≡ false → Refuses self.old word × (self.new ≡ self.old) }
     {
@@ -412,7 +437,7 @@ impl FrameReader {
     ) -> Result<Option<Piece>, BadWord>
         requires { self.old.place ≡ place.Data owner left room length.number length.len }
         ensures senders { self.new.senders ≡ self.old.senders }
-        ensures sound { IsSound self.new.place self.new.bytes }
+        ensures sound { IsSound self.new.most self.new.place self.new.bytes }
         ensures steps { Steps self.old word result self.new }
     {
         if length.len as usize - self.bytes.len() > 8 {
@@ -433,7 +458,7 @@ impl FrameReader {
         requires place { self.old.place ≡ place.Data owner left room told.number told.len }
         requires more { length self.old.bytes + 8 < told.len }
         ensures senders { self.new.senders ≡ self.old.senders }
-        ensures sound { IsSound self.new.place self.new.bytes }
+        ensures sound { IsSound self.new.most self.new.place self.new.bytes }
         ensures steps { Steps self.old word (Ok None) self.new }
     {
         let _held = &self.bytes;
@@ -462,7 +487,7 @@ impl FrameReader {
         requires place { self.old.place ≡ place.Data owner left room told.number told.len }
         requires last { told.len ≤ length self.old.bytes + 8 }
         ensures senders { self.new.senders ≡ self.old.senders }
-        ensures sound { IsSound self.new.place self.new.bytes }
+        ensures sound { IsSound self.new.most self.new.place self.new.bytes }
         ensures good { IsTrue result
             → Steps self.old word (Ok (Some (piece.Item item.new))) self.new }
         ensures bad { result ≡ false
@@ -548,11 +573,13 @@ impl FrameReader {
     #[inline(always)]
     pub fn take_plain(&mut self, word: u64) -> bool
         ensures senders { self.new.senders ≡ self.old.senders }
-        ensures gives { (words : _) (pieces : _) → HasRead self.old.senders words pieces self.old
-            → IsTrue result → GivesPiece self.old.senders words word None }
-        ensures read { (words : _) (pieces : _) → HasRead self.old.senders words pieces self.old
+        ensures gives { (most : _) (words : _) (pieces : _) → HasReadOf most self.old.senders words
+            pieces self.old
+            → IsTrue result → GivesPieceOf most self.old.senders words word None }
+        ensures read { (most : _) (words : _) (pieces : _) → HasReadOf most self.old.senders words
+            pieces self.old
             → IsTrue result
-            → HasRead self.old.senders (words ++ word ∷ []) (pieces ++ None ∷ []) self.new }
+            → HasReadOf most self.old.senders (words ++ word ∷ []) (pieces ++ None ∷ []) self.new }
         ensures stays { result ≡ false → self.new ≡ self.old }
         ensures for_good { HasMetBadWord self.old → result ≡ false }
     {
@@ -585,12 +612,14 @@ impl FrameReader {
     #[inline(always)]
     pub fn take_item(&mut self, word: u64, item: &mut Item) -> bool
         ensures senders { self.new.senders ≡ self.old.senders }
-        ensures gives { (words : _) (pieces : _) → HasRead self.old.senders words pieces self.old
+        ensures gives { (most : _) (words : _) (pieces : _) → HasReadOf most self.old.senders words
+            pieces self.old
             → IsTrue result
-            → GivesPiece self.old.senders words word (Some (piece.Item item.new)) }
-        ensures read { (words : _) (pieces : _) → HasRead self.old.senders words pieces self.old
+            → GivesPieceOf most self.old.senders words word (Some (piece.Item item.new)) }
+        ensures read { (most : _) (words : _) (pieces : _) → HasReadOf most self.old.senders words
+            pieces self.old
             → IsTrue result
-            → HasRead self.old.senders (words ++ word ∷ [])
+            → HasReadOf most self.old.senders (words ++ word ∷ [])
             (pieces ++ Some (piece.Item item.new) ∷ []) self.new }
         ensures stays { result ≡ false → (self.new ≡ self.old) × (item.new ≡ item.old) }
         ensures for_good { HasMetBadWord self.old → result ≡ false }
@@ -617,13 +646,16 @@ impl FrameReader {
         ensures senders { self.new.senders ≡ self.old.senders }
 
         // It refuses exactly the words that no log goes on with.
-        ensures bad { (words : _) (pieces : _) → HasRead self.old.senders words pieces self.old
-            → (IsErr result ↔ IsBadWord self.old.senders words word) }
-        ensures gives { (words : _) (pieces : _) → HasRead self.old.senders words pieces self.old
-            → IfOk result (GivesPiece self.old.senders words word) }
-        ensures read { (words : _) (pieces : _) → HasRead self.old.senders words pieces self.old
+        ensures bad { (most : _) (words : _) (pieces : _) → HasReadOf most self.old.senders words
+            pieces self.old
+            → (IsErr result ↔ IsBadWordOf most self.old.senders words word) }
+        ensures gives { (most : _) (words : _) (pieces : _) → HasReadOf most self.old.senders words
+            pieces self.old
+            → IfOk result (GivesPieceOf most self.old.senders words word) }
+        ensures read { (most : _) (words : _) (pieces : _) → HasReadOf most self.old.senders words
+            pieces self.old
             → IfOk result
-            (λ found. HasRead self.old.senders
+            (λ found. HasReadOf most self.old.senders
             (words ++ word ∷ []) (pieces ++ found ∷ []) self.new) }
 
         ensures stays { OnErr result (self.new ≡ self.old) }
@@ -648,13 +680,16 @@ impl FrameReader {
         ensures senders { self.new.senders ≡ self.old.senders }
 
         // It refuses exactly the words that no log goes on with.
-        ensures bad { (words : _) (pieces : _) → HasRead self.old.senders words pieces self.old
-            → (IsErr result ↔ IsBadWord self.old.senders words word) }
-        ensures gives { (words : _) (pieces : _) → HasRead self.old.senders words pieces self.old
-            → IfOk result (GivesPiece self.old.senders words word) }
-        ensures read { (words : _) (pieces : _) → HasRead self.old.senders words pieces self.old
+        ensures bad { (most : _) (words : _) (pieces : _) → HasReadOf most self.old.senders words
+            pieces self.old
+            → (IsErr result ↔ IsBadWordOf most self.old.senders words word) }
+        ensures gives { (most : _) (words : _) (pieces : _) → HasReadOf most self.old.senders words
+            pieces self.old
+            → IfOk result (GivesPieceOf most self.old.senders words word) }
+        ensures read { (most : _) (words : _) (pieces : _) → HasReadOf most self.old.senders words
+            pieces self.old
             → IfOk result
-            (λ found. HasRead self.old.senders
+            (λ found. HasReadOf most self.old.senders
             (words ++ word ∷ []) (pieces ++ found ∷ []) self.new) }
 
         ensures met { OnErr result (HasMetBadWord self.new) }

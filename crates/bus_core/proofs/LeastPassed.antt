@@ -5,7 +5,7 @@ use Rattle.std.proofs.Common.{◌∷◌, length, nat_lt, inl, inr, refl, ◌∙�
 use Rattle.std.proofs.Common.{Option, Some, None, IfSome, ◌==◌}
 use Rattle.std.proofs.lemmas.Bool.{ltb-true, ltb-false}
 use Rattle.std.proofs.lemmas.Bool.Decides.{eqb_tells}
-use Rattle.bus_register.specs.declared.limits.TheConstants.{NUMBERS}
+use Rattle.bus_register.specs.declared.limits.TheConstants.{PLACES}
 use Rattle.bus_core.specs.Reusing.Passing.{passing_begun, passing_fed, passing_over, core_passed}
 use Rattle.bus_core.specs.Reusing.Passing.{core_over, AreBehind, GivesLeast, GivesFloor}
 use Rattle.bus_core.specs.declared.reuses.Passing.{Passing}
@@ -103,17 +103,17 @@ module _ {E : Type 0} where
       let k = gives_least passing_begun (place ∷ places) in
       let least = (passing_over passing_begun (place ∷ places)).least in
       let inner = lesser_is least page.words in
-      let outer = lesser_is (lesser least page.words) NUMBERS in
+      let outer = lesser_is (lesser least page.words) PLACES in
       let one = inner.first in
       let two = inner.second in
       let low = outer.first in
       record {
         before = λ fewer early. over_before c passing_begun fewer (omega arith);
-        floor = lesser (lesser least page.words) NUMBERS;
+        floor = lesser (lesser least page.words) PLACES;
         after =
             over_all c passing_begun place places (omega arith)
             ∙ ap (λ ph. record c { phase = phase_floored least ph }) holds;
-        behind = behind_lower (lesser (lesser least page.words) NUMBERS) least (place ∷ places)
+        behind = behind_lower (lesser (lesser least page.words) PLACES) least (place ∷ places)
             (omega arith) k.below;
         within = omega arith;
         few = outer.second;
@@ -122,7 +122,7 @@ module _ {E : Type 0} where
         rises = λ kept each. outer.most page.floor (inner.most page.floor
             (k.greatest page.floor (few_begun page.floor kept.few) each) kept.behind) kept.few;
       } where
-        few_begun : (n : ℕ) → n ≤ NUMBERS → n ≤ 2 ^ 64 - 1
+        few_begun : (n : ℕ) → n ≤ PLACES → n ≤ 2 ^ 64 - 1
         few_begun n few = omega arith
 
 -- ---- and that it does not fall
@@ -134,7 +134,7 @@ module _ {E : Type 0} where
   floored_within least (Taken t) = omega arith
   floored_within least (Holding t page stored published) =
       let inner = (lesser_is least page.words).first in
-      let outer = (lesser_is (lesser least page.words) NUMBERS).first in
+      let outer = (lesser_is (lesser least page.words) PLACES).first in
       omega arith
   floored_within least (Giving t reason) = omega arith
 

@@ -99,6 +99,7 @@ new_sender x me rows first = record {
     me = me;
     queue = record {
       sender = record { 0 = me };
+      limit = x.batch;
       first = first;
       messages = [];
       phase = Open;

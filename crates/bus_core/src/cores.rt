@@ -37,7 +37,9 @@ use crate::limits::{LEAST_ROWS_AGAIN, MOST_ROWS_AGAIN, PASSED_APART};
 use bus_adoptcommit::Ratifier;
 use bus_ownerbits::Election;
 use bus_presence::Pin;
-use bus_register::limits::{MOST_RECEIVERS, MOST_ROUNDS, MOST_SENDERS, NUMBERS, TENURES};
+use bus_register::limits::{
+    MOST_MESSAGES, MOST_RECEIVERS, MOST_ROUNDS, MOST_SENDERS, NUMBERS, TENURES,
+};
 use bus_register::{Kind, Op, Reg, SenderNo, cell};
 use bus_tenure::{Doing, OwnedPage, Reason, Turn, Turns};
 use std::marker::Model;
@@ -79,7 +81,8 @@ impl<Q: Ratifier> Model for SenderCore<Q> {
 
 impl<Q: Ratifier + Drop> SenderCore<Q> {
     /// Sender `me` of so many, with nothing pending and no tenure begun, of a bus of so many rounds
-    /// for each bit, rows, one for each tenure, and log words. Its messages count from `first` on.
+    /// for each bit, rows, one for each tenure, log words and messages of a batch. Its messages
+    /// count from `first` on.
     pub fn new(
         senders: u64,
         me: SenderNo,
@@ -87,6 +90,7 @@ impl<Q: Ratifier + Drop> SenderCore<Q> {
         rows: u64,
         log_words: u64,
         first: u64,
+        batch: u64,
     ) -> SenderCore<Q>
         requires me_below { me.0 < senders }
         requires few { senders ≤ MOST_SENDERS }
@@ -94,14 +98,15 @@ impl<Q: Ratifier + Drop> SenderCore<Q> {
         requires rounds_few { rounds ≤ MOST_ROUNDS }
         requires rows_few { rows ≤ TENURES }
         requires log_few { log_words ≤ 2 ^ 20 }
-        requires room { words_of (layout_with Q.protocol senders rounds rows log_words 0)
+        requires room { words_of (layout_with Q.protocol senders rounds rows log_words 0 batch)
             ≤ 2 ^ 63 }
         requires numbers { first ≤ NUMBERS }
+        requires batch { (1 ≤ batch) × (batch ≤ MOST_MESSAGES) }
         ensures { result ≡ new_sender
-            (layout_with Q.protocol senders rounds rows log_words 0) me.0 None first }
+            (layout_with Q.protocol senders rounds rows log_words 0 batch) me.0 None first }
     {
         SenderCore {
-            turns: Turns::new(senders, me, rounds, rows, log_words, first, 0),
+            turns: Turns::new(senders, me, rounds, rows, log_words, first, 0, batch),
             reuse: None,
         }
     }
@@ -116,6 +121,7 @@ impl<Q: Ratifier + Drop> SenderCore<Q> {
         log_words: u64,
         first: u64,
         passers: u64,
+        batch: u64,
     ) -> SenderCore<Q>
         requires me_below { me.0 < senders }
         requires few { senders ≤ MOST_SENDERS }
@@ -126,14 +132,17 @@ impl<Q: Ratifier + Drop> SenderCore<Q> {
         requires log_few { log_words ≤ 2 ^ 20 }
         requires numbers { first ≤ NUMBERS }
         requires passers_few { passers ≤ MOST_RECEIVERS }
+        requires batch { (1 ≤ batch) × (batch ≤ MOST_MESSAGES) }
         ensures { result ≡ new_sender
-            (layout_with Q.protocol senders rounds TENURES log_words passers) me.0 (Some rows)
-            first }
+            (layout_with Q.protocol senders rounds TENURES log_words passers batch) me.0
+            (Some rows) first }
     {
         let width = Election::<Q>::width(senders, rounds);
         let _ = width;
         SenderCore {
-            turns: Turns::new(senders, me, rounds, TENURES, log_words, first, passers),
+            turns: Turns::new(
+                senders, me, rounds, TENURES, log_words, first, passers, batch,
+            ),
             reuse: Some(Reuse {
                 pin: Pin::Away,
                 reclaimer: None,

@@ -8,7 +8,7 @@
 //! use bus_core::SenderCore;
 //! use bus_register::{Kind, SenderNo};
 //!
-//! let mut sender = SenderCore::<ThreeWord>::cyclic(1, SenderNo(0), 1, 2, 16, 0, 0);
+//! let mut sender = SenderCore::<ThreeWord>::cyclic(1, SenderNo(0), 1, 2, 16, 0, 0, 16);
 //! assert_eq!(rt; sender.put(b"a"), Ok(0));
 //! let kinds = [Kind::LoadStage, Kind::Enter, Kind::LoadStageAgain, Kind::Announce];
 //! for kind in kinds {

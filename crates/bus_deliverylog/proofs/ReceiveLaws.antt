@@ -104,7 +104,7 @@ module _ (old : LogReading) (span : Span) where
   pub span_begins : (told : ℕ) → LeadsOn old.frames told None (midway old.frames span [])
       → TakesNext old told turn.Going (midway_in old span [])
   span_begins told leads words pieces had =
-      let on = leads words pieces had.read in
+      let on = leads _ words pieces had.read in
       inr (record {
         found = None;
         gives = on.0;
@@ -116,7 +116,7 @@ module _ (old : LogReading) (span : Span) where
 
   pub span_goes_on : GoesOnWithin old.frames span → TakesWithin old span
   span_goes_on goes taken word fits more words pieces had =
-      let on = goes taken word fits more words pieces had.read in
+      let on = goes taken word fits more _ words pieces had.read in
       let place : old.place + (1 + length (taken ++ word ∷ []))
       ≡ old.place + (1 + length taken) + 1 =
       let e = length-append taken (word ∷ []) in omega arith in
@@ -152,8 +152,8 @@ module _ (old : LogReading) (span : Span) where
     span_ends answer answer_is words pieces had =
         subst (TakesWord words pieces (midway_in old span taken) last answer) span_moved
         (good_word (midway_in old span taken) (midway_in old span taken) refl frames' last found
-        false (λ w p h. (leads w p h).1) senders goes answer words pieces had
-        (λ w p h. (leads w p h).0) answer_is)
+        false (λ w p h. (leads _ w p h).1) senders goes answer words pieces had
+        (λ w p h. (leads _ w p h).0) answer_is)
 
     pub span_seen : old.place + (1 + span.words) ≤ old.known → HasSeen (midway_in old span taken)
         → (old.place + (1 + span.words) ≤ old.known) × HasSeen (record (midway_in old span taken) {
@@ -162,7 +162,7 @@ module _ (old : LogReading) (span : Span) where
         })
     span_seen known seen =
         let more = seen_more (midway_in old span taken) (midway_in old span taken) refl frames' last
-        found false (λ w p h. (leads w p h).1) senders goes
+        found false (λ w p h. (leads _ w p h).1) senders goes
         (λ e. absurd (let e' : old.place + (1 + length taken) ≡ old.known = e in omega arith)) refl
         (omega arith, seen) in
         (known, subst HasSeen span_moved more.1)

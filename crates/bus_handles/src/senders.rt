@@ -23,7 +23,7 @@ ghost use Rattle.bus_pageslot.specs.Seats.{TookAndTold, table_of};
 ghost use Rattle.bus_pageslot.specs.Seats.{first_number_of, actions_of, stored_of};
 ghost use Rattle.bus_pageslot.specs.Turns.{tells_by, TakesUpTo, Sends, SendsAsking, StopsWaiting};
 ghost use Rattle.bus_pageslot.specs.Sendings.{waiting_of, HasSent, HasSentPart, KeptAfter};
-ghost use Rattle.bus_pageslot.specs.Sendings.{Carries, CarryRefused};
+ghost use Rattle.bus_pageslot.specs.Sendings.{Carries, CarryRefused, limit_of};
 ghost use Rattle.bus_handles.specs.Answers.{delivered_turn, DeliversNone};
 ghost use Rattle.bus_handles.specs.Asking.{SaysNo, SaysYes, SaysEither};
 ghost use Rattle.bus_pageslot.specs.Looks.{LooksForRoom};
@@ -147,11 +147,21 @@ impl<Q: Ratifier + Drop, R: Rng + Drop> SenderHandle<Q, R> {
         Arc::as_ptr(&self.bus)
     }
 
-    /// How many messages wait in its batch, at most 16.
+    /// How many messages wait in its batch.
     pub fn pending(&self) -> u64
         ensures { result ≡ length (waiting_of (process_by Q.Ratifier) self.now) }
     {
         self.sender.pending()
+    }
+
+    /// How many messages its batch has at most: as many as its bus says, 1 to 16.
+    pub fn batch_limit(&self) -> u64
+        ensures limit { result ≡ limit_of (process_by Q.Ratifier) self.now }
+        ensures bus { result ≡ ((process_by Q.Ratifier).table_layout self.now.core).batch }
+        ensures some { 1 ≤ result }
+        ensures few { result ≤ MOST_MESSAGES }
+    {
+        self.sender.batch_limit()
     }
 
     /// The messages that wait in its batch, in their order, spelled back from their words.
@@ -504,9 +514,9 @@ impl<Q: Ratifier + Drop, R: Rng + Drop> SenderHandle<Q, R> {
     }
 
     /// Sends messages in their order: first what waits in its batch, and then these, in batches of
-    /// 16, of which the last may be smaller. Ok where no message waits any more. It stops at the
-    /// first batch that is not sent off, which is kept, and at the first message that is refused.
-    /// It waits as `send` does, and that it ends is not promised.
+    /// as many as one may have, of which the last may be smaller. Ok where no message waits any
+    /// more. It stops at the first batch that is not sent off, which is kept, and at the first
+    /// message that is refused. It waits as `send` does, and that it ends is not promised.
     pub fn send_all<W: Wait>(&mut self, wait: &W, messages: &[Message]) -> Result<(), Unsent>
         ensures table { table_of self.new ≡ table_of self.old }
         ensures all { OnOk result (HasSent (process_by Q.Ratifier) (tells_by Q.Ratifier) self.old

@@ -26,7 +26,7 @@ use Rattle.bus_core.specs.Senders.{Withdraws, Scans, Clears, ReadsPassed, situat
 use Rattle.bus_core.specs.Table.{Line, line_now}
 use Rattle.bus_core.specs.Reusing.Participants.{log_from, passed_from}
 use Rattle.bus_world.specs.Headline.{Action}
-use Rattle.bus_world.specs.Log.{words_read_from, words_in_ring, floor_shown}
+use Rattle.bus_world.specs.Log.{words_read_from, words_in_ring, floor_shown, ring_numbers}
 pub use Rattle.bus_world.specs.Log.{words_of_frame}
 use Rattle.bus_world.specs.Playing.{asked_answer}
 use Rattle.bus_world.specs.Trails.{step_action, put_actions, mark_actions, no_actions, no_answers}
@@ -36,7 +36,6 @@ use Rattle.bus_world.specs.Turning.{owners_by}
 use Rattle.bus_world.specs.Starting.{IsNewReceiver}
 use Rattle.bus_world.specs.World.{Event, Put, Ask, Turn, Recv, Stop, Gone, is_set, no_stops}
 use Rattle.bus_world.specs.World.{AreBases, first_page, RecvDoes, FindsIn, recv_found}
-use Rattle.bus_world.specs.declared.limits.TheConstants.{FIRST_RING_NUMBERS}
 use Rattle.bus_world.specs.declared.events.Answer.{Answer}
 use Rattle.bus_world.specs.declared.events.Answer.TheVariants as answer
 
@@ -412,7 +411,7 @@ pub record IsNew {E : Type 0} (b : Machine E) : Type 0 where
   pub apart : b.reuse ≡ None → b.layout.passers ≡ 0
   pub many : (r : ℕ) (v : Receiving) → slice_get b.receivers r ≡ Some v
       → (b.layout.passers ≡ 0) ⊎ (r < b.layout.passers)
-  pub ring_bases : 0 < b.layout.passers → (s : ℕ) → base_of b s < FIRST_RING_NUMBERS
+  pub ring_bases : 0 < b.layout.passers → (s : ℕ) → base_of b s < ring_numbers b.layout.batch
   pub stopped : b.stopped ≡ no_stops
   pub owners : b.owners ≡ []
 

@@ -4,7 +4,7 @@ use Rattle.std.specs.Prelude.{◌≡◌, ℕ, zero, suc, ◌^◌, ◌<◌, ◌�
 use Rattle.std.specs.Prelude.{None, List}
 use Rattle.std.specs.Prelude.{[], ◌∷◌, ◌++◌, length, take, slice_get, slice_index}
 use Rattle.bus_register.specs.declared.limits.TheConstants.{MOST_SENDERS, MOST_RECEIVERS}
-use Rattle.bus_register.specs.declared.limits.TheConstants.{MOST_ROUNDS, MOST_ROWS}
+use Rattle.bus_register.specs.declared.limits.TheConstants.{MOST_ROUNDS, MOST_ROWS, MOST_MESSAGES}
 use Rattle.bus_register.specs.declared.limits.TheConstants.{LEAST_LOG_WORDS, MOST_LOG_WORDS}
 use Rattle.bus_register.specs.declared.limits.TheConstants.{TENURES}
 use Rattle.bus_register.specs.Protocol.{Protocol}
@@ -38,9 +38,9 @@ use Rattle.bus_machine.specs.Telling.{Causes, Says, Tells, OpensOnly}
 -- its tenures, or are used again by up to 2^40 of them
 abbrev pub layout_passed : {S : Type 0} → Protocol S Bool Verdict → Shape → Option ℕ → ℕ → Layout
 layout_passed P shape None passers =
-    layout_with P shape.senders shape.rounds shape.rows shape.log_words passers
+    layout_with P shape.senders shape.rounds shape.rows shape.log_words passers MOST_MESSAGES
 layout_passed P shape (Some rows) passers =
-    layout_with P shape.senders shape.rounds TENURES shape.log_words passers
+    layout_with P shape.senders shape.rounds TENURES shape.log_words passers MOST_MESSAGES
 
 -- without any, where no word of the log is used again
 abbrev pub layout_of : {S : Type 0} → Protocol S Bool Verdict → Shape → Option ℕ → Layout
@@ -118,7 +118,7 @@ MakeRefused shape reuse make.NoMemory = IsServed shape reuse
 -- tenures
 pub record IsFollowedBy (passers : ℕ) (page : Page) : Type 0 where
   pub ended : page.ended ≡ true
-  pub low : (s : ℕ) → slice_index page.next s < first_numbers passers
+  pub low : (s : ℕ) → slice_index page.next s < first_numbers passers MOST_MESSAGES
 
 abbrev pub IsFollowed : Page → Type 0
 IsFollowed page = IsFollowedBy 0 page
@@ -134,7 +134,7 @@ RefusedAfter passers shape reuse page make.LogWords = MakeRefused shape reuse ma
 RefusedAfter passers shape reuse page make.NotEnded = IsServed shape reuse × (page.ended ≡ false)
 RefusedAfter passers shape reuse page make.Numbers =
     IsServed shape reuse × (page.ended ≡ true) × (s : ℕ) × (s < MOST_SENDERS)
-    × (first_numbers passers ≤ slice_index page.next s)
+    × (first_numbers passers MOST_MESSAGES ≤ slice_index page.next s)
 RefusedAfter passers shape reuse page make.NoMemory =
     IsServed shape reuse × IsFollowedBy passers page
 
@@ -151,7 +151,7 @@ PageRefused passers page make.LogWords = ⊥
 PageRefused passers page make.NotEnded = page.ended ≡ false
 PageRefused passers page make.Numbers =
     (page.ended ≡ true) × (s : ℕ) × (s < MOST_SENDERS)
-    × (first_numbers passers ≤ slice_index page.next s)
+    × (first_numbers passers MOST_MESSAGES ≤ slice_index page.next s)
 PageRefused passers page make.NoMemory = ⊥
 
 abbrev pub MayNotGoOn : ℕ → Option Page → MakeFault → Type 0
@@ -304,6 +304,7 @@ pub record IsHeld {E : Type 0} (X : Election E) (m : Machine E) : Type 0 where
   pub capacity_some : 0 < m.layout.capacity
   pub capacity_few : m.layout.capacity ≤ MOST_LOG_WORDS
   pub passers_few : m.layout.passers ≤ MOST_RECEIVERS
+  pub batch : Within 1 MOST_MESSAGES m.layout.batch
   pub senders : length m.senders ≡ m.layout.senders
   pub trails : Trails
   pub reached : Reached X m trails

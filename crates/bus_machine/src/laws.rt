@@ -34,10 +34,10 @@ use bus_ownerbits::laws::election_is_lawful;
 /// tenure has seen the election of that tenure end so.
 pub fn machine_keeps_promise<Q: Ratifier>()
     ensures { let X = election_of Q.Ratifier in
-        (senders rounds rows capacity passers : ℕ)
-        → IsLayout (layout_with Q.protocol senders rounds rows capacity passers)
+        (senders rounds rows capacity passers batch : ℕ)
+        → IsLayout (layout_with Q.protocol senders rounds rows capacity passers batch)
         → (machine : Machine (Elector Q)) (trails : Trails)
-        → machine.layout ≡ layout_with Q.protocol senders rounds rows capacity passers
+        → machine.layout ≡ layout_with Q.protocol senders rounds rows capacity passers batch
         → HasRows machine.reuse → Reached X machine trails
         → IsPromised X machine trails × LossesAreSeen machine trails.actions }
 {
@@ -48,10 +48,10 @@ pub fn machine_keeps_promise<Q: Ratifier>()
 /// answer tells is so, and the stage leaves that of an open tenure only by who takes its page.
 pub fn events_keep_promise<Q: Ratifier>()
     ensures { let X = election_of Q.Ratifier in
-        (senders rounds rows capacity passers : ℕ)
-        → IsLayout (layout_with Q.protocol senders rounds rows capacity passers)
+        (senders rounds rows capacity passers batch : ℕ)
+        → IsLayout (layout_with Q.protocol senders rounds rows capacity passers batch)
         → (old : Machine (Elector Q)) (trails : Trails)
-        → old.layout ≡ layout_with Q.protocol senders rounds rows capacity passers
+        → old.layout ≡ layout_with Q.protocol senders rounds rows capacity passers batch
         → HasRows old.reuse → Reached X old trails
         → (event : Event) (given : Answer) (new : Machine (Elector Q))
         → Happens X old event given new
@@ -68,10 +68,10 @@ pub fn events_keep_promise<Q: Ratifier>()
 /// what joins goes by what was published, and this says where that stands.
 pub fn history_stands<Q: Ratifier>()
     ensures { let X = election_of Q.Ratifier in
-        (senders rounds rows capacity passers : ℕ)
-        → IsLayout (layout_with Q.protocol senders rounds rows capacity passers)
+        (senders rounds rows capacity passers batch : ℕ)
+        → IsLayout (layout_with Q.protocol senders rounds rows capacity passers batch)
         → (machine : Machine (Elector Q)) (trails : Trails)
-        → machine.layout ≡ layout_with Q.protocol senders rounds rows capacity passers
+        → machine.layout ≡ layout_with Q.protocol senders rounds rows capacity passers batch
         → HasRows machine.reuse → Reached X machine trails
         → ShowsLog machine trails.log × FindsWords machine trails.log
         × StandsBelow machine trails.log }
@@ -86,10 +86,10 @@ pub fn history_stands<Q: Ratifier>()
 /// have read as many words, and were given two orders.
 pub fn receivers_are_given_alike<Q: Ratifier>()
     ensures given { let X = election_of Q.Ratifier in
-        (senders rounds rows capacity passers : ℕ)
-        → IsLayout (layout_with Q.protocol senders rounds rows capacity passers)
+        (senders rounds rows capacity passers batch : ℕ)
+        → IsLayout (layout_with Q.protocol senders rounds rows capacity passers batch)
         → (machine : Machine (Elector Q)) (trails : Trails)
-        → machine.layout ≡ layout_with Q.protocol senders rounds rows capacity passers
+        → machine.layout ≡ layout_with Q.protocol senders rounds rows capacity passers batch
         → HasRows machine.reuse → Reached X machine trails → AreGivenAlike machine trails }
     ensures refuses { (machine : Machine (Elector Q)) (trails : Trails)
         → GivenRefuse machine trails }
@@ -102,10 +102,10 @@ pub fn receivers_are_given_alike<Q: Ratifier>()
 /// to stand; and the length counts all that is published then.
 pub fn published_words_stand<Q: Ratifier>()
     ensures { let X = election_of Q.Ratifier in
-        (senders rounds rows capacity passers : ℕ)
-        → IsLayout (layout_with Q.protocol senders rounds rows capacity passers)
+        (senders rounds rows capacity passers batch : ℕ)
+        → IsLayout (layout_with Q.protocol senders rounds rows capacity passers batch)
         → (old : Machine (Elector Q)) (trails : Trails)
-        → old.layout ≡ layout_with Q.protocol senders rounds rows capacity passers
+        → old.layout ≡ layout_with Q.protocol senders rounds rows capacity passers batch
         → HasRows old.reuse → Reached X old trails
         → (event : Event) (given : Answer) (new : Machine (Elector Q))
         → Happens X old event given new
@@ -121,10 +121,10 @@ pub fn published_words_stand<Q: Ratifier>()
 /// of that tenure.
 pub fn steps_are_bounded<Q: Ratifier>()
     ensures { let X = election_of Q.Ratifier in
-        (senders rounds rows capacity passers : ℕ)
-        → IsLayout (layout_with Q.protocol senders rounds rows capacity passers)
+        (senders rounds rows capacity passers batch : ℕ)
+        → IsLayout (layout_with Q.protocol senders rounds rows capacity passers batch)
         → (machine : Machine (Elector Q)) (trails : Trails)
-        → machine.layout ≡ layout_with Q.protocol senders rounds rows capacity passers
+        → machine.layout ≡ layout_with Q.protocol senders rounds rows capacity passers batch
         → HasRows machine.reuse → Reached X machine trails
         → AreBounded X (election_bound Q.protocol.steps senders rounds) machine trails
         × PinsAreBounded trails }

@@ -16,10 +16,11 @@ ghost use Rattle.bus_world.specs.declared.shapes.MakeFault.TheVariants.{NoMemory
 
 use bus_core::limits::{LEAST_ROWS_AGAIN, MOST_ROWS_AGAIN};
 use bus_register::limits::{
-    LEAST_LOG_WORDS, MOST_LOG_WORDS, MOST_RECEIVERS, MOST_ROUNDS, MOST_ROWS, MOST_SENDERS,
+    LEAST_LOG_WORDS, MOST_LOG_WORDS, MOST_MESSAGES, MOST_RECEIVERS, MOST_ROUNDS, MOST_ROWS,
+    MOST_SENDERS, NUMBERS, TENURES,
 };
 use bus_tenure::Page;
-use bus_world::limits::{FIRST_NUMBERS, FIRST_RING_NUMBERS};
+use bus_world::limits::FIRST_NUMBERS;
 use bus_world::{MakeFault, Shape};
 
 /// The least number of rows: a row for each tenure, or rows that are used again.
@@ -65,13 +66,13 @@ pub fn fault_of(shape: Shape, reuse: Option<u64>) -> Option<MakeFault>
 
 /// Below this each sender's numbers begin in a sitting of a bus with so many passed places.
 fn numbers_below(passers: u64) -> u64
-    ensures is { result ≡ spec_numbers passers }
+    ensures is { result ≡ spec_numbers passers MOST_MESSAGES }
     ensures some { 0 < result }
     ensures most { result ≤ FIRST_NUMBERS }
 {
     match passers {
         0 => FIRST_NUMBERS,
-        _ => FIRST_RING_NUMBERS,
+        _ => NUMBERS - MOST_MESSAGES as u64 * (TENURES + 1),
     }
 }
 
@@ -96,7 +97,8 @@ fn are_low(next: [u64; MOST_SENDERS], below: u64) -> bool
 pub fn first_numbers(page: Option<&Page>, passers: u64) -> Result<[u64; MOST_SENDERS], MakeFault>
     ensures bases { IfOk result (λ bases. bases ≡ bases_after (option_copied page.entry)) }
     ensures are { IfOk result (λ bases. AreBases bases) }
-    ensures low { IfOk result (λ bases. (s : ℕ) → slice_index bases s < spec_numbers passers) }
+    ensures low { IfOk result (λ bases. (s : ℕ) → slice_index bases s
+        < spec_numbers passers MOST_MESSAGES) }
     ensures follows { OnOk result (MayGoOn passers (option_copied page.entry)) }
     ensures fault { IfErr result (MayNotGoOn passers (option_copied page.entry)) }
 {
@@ -124,6 +126,7 @@ pub fn log_word(shape: Shape, reuse: Option<u64>, width: u64) -> u64
       width = width;
       capacity = shape.log_words;
       passers = 0;
+      batch = MOST_MESSAGES;
     } reuse }
     ensures room { result ≤ 2 ^ 30 }
 {

@@ -10,6 +10,7 @@ ghost use Rattle.bus_world.specs.World.{AreBases};
 
 use bus_adoptcommit::Ratifier;
 use bus_core::SenderCore;
+use bus_register::limits::MOST_MESSAGES;
 use bus_register::{NoMemory, SenderNo};
 use bus_world::Shape;
 use std::alloc::Global;
@@ -33,9 +34,10 @@ fn new_sender<Q: Ratifier + Drop>(
         ≡ spec_new_sender (layout_passed Q.protocol shape reuse passers) me.0 reuse first }
 {
     let (senders, rounds, words) = (shape.senders, shape.rounds, shape.log_words);
+    let batch = MOST_MESSAGES as u64;
     match reuse {
-        None => SenderCore::new(senders, me, rounds, shape.rows, words, first),
-        Some(rows) => SenderCore::cyclic(senders, me, rounds, rows, words, first, passers),
+        None => SenderCore::new(senders, me, rounds, shape.rows, words, first, batch),
+        Some(rows) => SenderCore::cyclic(senders, me, rounds, rows, words, first, passers, batch),
     }
 }
 

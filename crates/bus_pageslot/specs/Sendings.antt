@@ -1,7 +1,7 @@
 -- Messages that a sender puts and sends, in batches.
 use Rattle.std.specs.Prelude.{◌≡◌, ℕ, ◌+◌, ◌<◌, ◌≤◌, ◌-◌, Bool, true, false, List, [], ◌∷◌, ◌++◌}
 use Rattle.std.specs.Prelude.{length, take, slice_get, Option, Some, None, IsSome, ◌⊎◌}
-use Rattle.bus_register.specs.declared.limits.TheConstants.{MOST_BYTES, MOST_MESSAGES}
+use Rattle.bus_register.specs.declared.limits.TheConstants.{MOST_BYTES}
 use Rattle.bus_batch.specs.Batches.{CanPut, IsPutFault, CanClose, next_of}
 use Rattle.bus_batch.specs.declared.batches.PutFault.{PutFault}
 use Rattle.bus_batch.specs.declared.batches.PutFault.TheVariants as put
@@ -64,9 +64,13 @@ KeepsFor P T old (fault.Put why) new = ⊥
 KeepsFor P T old (fault.Turn answer) new = Keeps P T old answer new
 
 -- ---- batches, one after another
+-- how many messages its batch has at most
+abbrev pub limit_of : {C : Type 0} → Process C → SenderSeat C → ℕ
+limit_of P s = (P.queue s.core).limit
+
 -- Puts of just these messages, in this order, led from one sender to another. It had sent off first
--- what waited before; and between the puts it sent off a batch where 16 messages waited, and
--- nowhere else.
+-- what waited before; and between the puts it sent off a batch where as many messages waited as it
+-- may have, and nowhere else.
 pub data FillsBatches {C : Type 0} (P : Process C) (T : Tellings C) (first : SenderSeat C) :
     List (List ℕ) → SenderSeat C → Type 0 where
   SentBefore : (new : SenderSeat C) → SendsOff P T first new → FillsBatches P T first [] new
@@ -74,7 +78,7 @@ pub data FillsBatches {C : Type 0} (P : Process C) (T : Tellings C) (first : Sen
       → FillsBatches P T first messages old → Takes P old bytes new
       → FillsBatches P T first (messages ++ bytes ∷ []) new
   SentFull : (messages : List (List ℕ)) (old : SenderSeat C) (new : SenderSeat C)
-      → FillsBatches P T first messages old → length (waiting_of P old) ≡ MOST_MESSAGES
+      → FillsBatches P T first messages old → length (waiting_of P old) ≡ limit_of P old
       → SendsOff P T old new → FillsBatches P T first messages new
 
 -- so it has put just these, behind what it had put before, and sent off what was left of them
@@ -88,7 +92,7 @@ pub record HasSent {C : Type 0} (P : Process C) (T : Tellings C) (first : Sender
 -- ---- where it stops
 -- a batch is to be sent off: it is full, or no message comes next
 abbrev pub IsDue : {C : Type 0} → Process C → Option (List ℕ) → SenderSeat C → Type 0
-IsDue P (Some bytes) s = length (waiting_of P s) ≡ MOST_MESSAGES
+IsDue P (Some bytes) s = length (waiting_of P s) ≡ limit_of P s
 IsDue P None s = Unit {0}
 
 -- the message that comes next was refused, where the batch has room for it and it is not too long
@@ -97,7 +101,7 @@ pub record Refuses {C : Type 0} (P : Process C) (s : SenderSeat C) (next : Optio
   pub bytes : List ℕ
   pub next_is : next ≡ Some bytes
   pub short : length bytes ≤ MOST_BYTES
-  pub room : length (waiting_of P s) < MOST_MESSAGES
+  pub room : length (waiting_of P s) < limit_of P s
   pub cause : IsPutFault (P.queue s.core) (length bytes) why
 
 -- once it has put these messages it does not go on to the one that comes next, or to the end, and
@@ -162,7 +166,7 @@ pub record Carries {C : Type 0} (P : Process C) (from old new : SenderSeat C) : 
 -- some wait, and they fit beside what waits there
 pub record MayFit {C : Type 0} (P : Process C) (from old : SenderSeat C) : Type 0 where
   pub some : 0 < length (waiting_of P from)
-  pub room : length (waiting_of P old) + length (waiting_of P from) ≤ MOST_MESSAGES
+  pub room : length (waiting_of P old) + length (waiting_of P from) ≤ limit_of P old
 
 -- why it took none of them: the sender that they wait with has begun a tenure, or they do not fit
 -- there, or its batch takes no message at all
@@ -174,7 +178,7 @@ CarryRefused P from old put.Busy =
     ⊎ (MayFit P from old × IsPutFault (P.queue old.core) 0 put.Busy)
 CarryRefused P from old put.TooLong = ⊥
 CarryRefused P from old put.BatchFull =
-    MOST_MESSAGES < length (waiting_of P old) + length (waiting_of P from)
+    limit_of P old < length (waiting_of P old) + length (waiting_of P from)
 
 -- ---- a close that is sent off at once
 -- a sender took a close, with no step

@@ -29,7 +29,7 @@ ghost use Rattle.bus_pageslot.specs.Turns.{DrawsOn, word_drawn};
 ghost use Rattle.bus_automaton.specs.Buses.{process_by};
 ghost use Rattle.bus_tenure.specs.Classes.{is_last, is_refusal, is_waiting};
 ghost use Rattle.bus_pageslot.specs.Sendings.{waiting_of, SendsOff, KeepsFor, FillsBatches};
-ghost use Rattle.bus_pageslot.specs.Sendings.{KeptAfter};
+ghost use Rattle.bus_pageslot.specs.Sendings.{KeptAfter, limit_of};
 ghost use Rattle.bus_pageslot.specs.Sendings.{HasSent, StopsAt, HasSentPart};
 ghost use Rattle.bus_pageslot.specs.Sendings.{Carries, CarryRefused};
 ghost use Rattle.bus_pageslot.specs.SendFaults.{send_fault_text};
@@ -159,11 +159,21 @@ impl<Q: Ratifier + Drop> Sender<Q> {
         self.core.senders()
     }
 
-    /// How many messages wait in its batch, at most 16.
+    /// How many messages wait in its batch.
     pub fn pending(&self) -> u64
         ensures { result ≡ length (waiting_of (process_by Q.Ratifier) self.now) }
     {
         self.core.pending()
+    }
+
+    /// How many messages its batch has at most: as many as its bus says, 1 to 16.
+    pub fn batch_limit(&self) -> u64
+        ensures limit { result ≡ limit_of (process_by Q.Ratifier) self.now }
+        ensures bus { result ≡ ((process_by Q.Ratifier).table_layout self.now.core).batch }
+        ensures some { 1 ≤ result }
+        ensures few { result ≤ MOST_MESSAGES }
+    {
+        self.core.batch_limit()
     }
 
     /// The messages that wait in its batch, in their order, spelled back from their words.
@@ -236,9 +246,9 @@ impl<Q: Ratifier + Drop> Sender<Q> {
         self.core.tenure()
     }
 
-    /// Appends a message of at most 56 bytes to its batch of at most 16, and gives its number,
-    /// which counts the messages of this sender from its first number on: that is 0, but where the
-    /// bus went on with the numbers of another. Takes no step. A fault changes nothing.
+    /// Appends a message of at most 56 bytes to its batch, and gives its number, which counts the
+    /// messages of this sender from its first number on: that is 0, but where the bus went on with
+    /// the numbers of another. Takes no step. A fault changes nothing.
     pub fn put(&mut self, bytes: &[u8]) -> Result<u64, PutFault>
         ensures number { let P = process_by Q.Ratifier in
             IfOk result (λ number. number ≡ next_of (P.queue self.old.core)) }
@@ -323,7 +333,7 @@ impl<Q: Ratifier + Drop> Sender<Q> {
         if self.has_begun() {
             return Err(PutFault::Busy);
         }
-        let room = (MOST_MESSAGES as u64).saturating_sub(next.pending());
+        let room = next.batch_limit().saturating_sub(next.pending());
         if self.pending() > room {
             return Err(PutFault::BatchFull);
         }
@@ -538,9 +548,9 @@ impl<Q: Ratifier + Drop> Sender<Q> {
     }
 
     /// Sends messages in their order: first what waits in its batch, and then these, in batches of
-    /// 16, of which the last may be smaller. Ok where no message waits any more. It stops at the
-    /// first batch that is not sent off, which is kept, and at the first message that is refused.
-    /// It waits as `send` does, and that it ends is not promised.
+    /// as many as one may have, of which the last may be smaller. Ok where no message waits any
+    /// more. It stops at the first batch that is not sent off, which is kept, and at the first
+    /// message that is refused. It waits as `send` does, and that it ends is not promised.
     pub fn send_all<W: Wait, R: Rng>(
         &mut self,
         waiter: &Waiter<'_, W>,
@@ -621,19 +631,21 @@ impl<Q: Ratifier + Drop> Sender<Q> {
         requires { table_of self.old ≡ bus.now.table }
         ensures table { table_of self.new ≡ table_of self.old }
         ensures room { let P = process_by Q.Ratifier in
-            OnOk result (length (waiting_of P self.new) < MOST_MESSAGES) }
+            OnOk result (length (waiting_of P self.new) < limit_of P self.new) }
         ensures sends { let P = process_by Q.Ratifier in let T = tells_by Q.Ratifier in
             OnOk result ((first : _) (messages : List (List ℕ)) → FillsBatches P T first messages
             self.old → FillsBatches P T first messages self.new) }
         ensures keeps { let P = process_by Q.Ratifier in let T = tells_by Q.Ratifier in
-            IfErr result (λ fault. (MOST_MESSAGES ≤ length (waiting_of P self.old)) × KeepsFor P T
-            self.old fault self.new) }
+            IfErr result (λ fault. (limit_of P self.old ≤ length (waiting_of P self.old))
+            × KeepsFor P T self.old fault self.new) }
     {
         threads_may_go_by::<Q>();
-        if self.pending() < MOST_MESSAGES as u64 {
+        if self.pending() < self.batch_limit() {
             return Ok(());
         }
-        self.send_off(waiter, bus, rng)
+        let sent = self.send_off(waiter, bus, rng);
+        let _some = self.batch_limit();
+        sent
     }
 
     /// Sends what waits in the batch. Ok where nothing waits then.

@@ -40,6 +40,10 @@ pub const MOST_FRAME_WORDS: usize = 129;
 /// The number of a message stays below 2^48.
 pub const NUMBERS: u64 = 0x0001_0000_0000_0000;
 
+/// A place in a log, counted from its first word ever, and a log's length stay below 2^50: so many
+/// tenures as there are numbers of them with the longest frames leave it below that.
+pub const PLACES: u64 = 0x0004_0000_0000_0000;
+
 /// The number of a tenure stays below 2^40.
 pub const TENURES: u64 = 0x0000_0100_0000_0000;
 

@@ -131,6 +131,7 @@ module _ {S : Type 0} (X : Election (Elector S)) (P : Protocol S Bool Verdict)
         rows = z.rows;
         capacity = z.capacity;
         passers = z.passers;
+        batch = z.batch;
         layout = layout_is ∙ z.layout;
         served = z.served;
         some = subst (λ (x : Layout). 0 < x.capacity) (sym layout_is) z.some;

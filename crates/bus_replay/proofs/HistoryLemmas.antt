@@ -225,10 +225,10 @@ kept_capacity words (Gone r) a h = refl
 -- the law of every machine: what is published stands in its cells just behind the event
 abbrev pub PublishedStands : {S : Type 0} → Election (Elector S) → Protocol S Bool Verdict → Type 0
 PublishedStands {S} X P =
-    (senders rounds rows capacity passers : ℕ)
-    → IsLayout (layout_with P senders rounds rows capacity passers)
+    (senders rounds rows capacity passers batch : ℕ)
+    → IsLayout (layout_with P senders rounds rows capacity passers batch)
     → (old : Machine (Elector S)) (trails : Trails)
-    → old.layout ≡ layout_with P senders rounds rows capacity passers → HasRows old.reuse
+    → old.layout ≡ layout_with P senders rounds rows capacity passers batch → HasRows old.reuse
     → Reached X old trails → (event : Event) (given : Answer) (new : Machine (Elector S))
     → Happens X old event given new
     → ShowsPublished new trails.log (trails_grown X old event given trails).log
@@ -308,6 +308,7 @@ module _ {S : Type 0} (X : Election (Elector S)) (P : Protocol S Bool Verdict)
         rows = z.rows;
         capacity = z.capacity;
         passers = z.passers;
+        batch = z.batch;
         layout = i.0 ∙ z.layout;
         served = z.served;
         some = subst (λ (x : Layout). 0 < x.capacity) (sym i.0) z.some;
@@ -410,6 +411,7 @@ module _ {S : Type 0} (X : Election (Elector S)) (P : Protocol S Bool Verdict)
           sizes = sizes;
           capacity = kept_capacity new.words e a h ∙ capacity_is;
           remembers = remembered h T taken e a d sizes capacity_is
-              (law z.senders z.rounds z.rows z.capacity z.passers z.served old T z.layout z.reuse
+              (law z.senders z.rounds z.rows z.capacity z.passers z.batch z.served old T z.layout
+              z.reuse
               k.reached e a new d) k.remembers;
         }

@@ -51,12 +51,14 @@ module _ {S : Type 0} (X : Election (Elector S)) (P : Protocol S Bool Verdict) w
     rows = shape.rows;
     capacity = shape.log_words;
     passers = passers;
+    batch = 16;
     layout = h.layout;
     served = record {
       senders = h.served.senders.1;
       rows = (let low = h.served.rows.1 in omega arith);
       capacity = h.served.log_words.1;
       passers = few;
+      batch = (omega arith, omega arith);
     };
     some = subst (λ (x : Layout). 0 < x.capacity) (sym h.layout)
         (let low = h.served.log_words.0 in omega arith);
@@ -71,12 +73,14 @@ module _ {S : Type 0} (X : Election (Elector S)) (P : Protocol S Bool Verdict) w
     rows = TENURES;
     capacity = shape.log_words;
     passers = passers;
+    batch = 16;
     layout = h.layout;
     served = record {
       senders = h.served.senders.1;
       rows = omega arith;
       capacity = h.served.log_words.1;
       passers = few;
+      batch = (omega arith, omega arith);
     };
     some = subst (λ (x : Layout). 0 < x.capacity) (sym h.layout)
         (let low = h.served.log_words.0 in omega arith);

@@ -109,8 +109,9 @@ pub record HasSizes {S : Type 0} (P : Protocol S Bool Verdict) (m : Machine (Ele
     pub rows : ℕ
     pub capacity : ℕ
     pub passers : ℕ
-    pub layout : m.layout ≡ layout_with P senders rounds rows capacity passers
-    pub served : IsLayout (layout_with P senders rounds rows capacity passers)
+    pub batch : ℕ
+    pub layout : m.layout ≡ layout_with P senders rounds rows capacity passers batch
+    pub served : IsLayout (layout_with P senders rounds rows capacity passers batch)
     pub some : 0 < m.layout.capacity
     pub reuse : HasRows m.reuse
     pub many : length m.senders ≡ m.layout.senders

@@ -15,10 +15,10 @@ use bus_ownerbits::laws::election_is_lawful;
 /// or had a receiver.
 pub fn closing_lines_are_of_the_bus<Q: Ratifier>()
     ensures { let X = election_of Q.Ratifier in
-        (senders rounds rows capacity : ℕ)
-        → IsLayout (layout_with Q.protocol senders rounds rows capacity 0)
+        (senders rounds rows capacity batch : ℕ)
+        → IsLayout (layout_with Q.protocol senders rounds rows capacity 0 batch)
         → (bus : Machine (Elector Q)) (trails other : Trails) (taken : ℕ → Bool) (text : List ℕ)
-        → bus.layout ≡ layout_with Q.protocol senders rounds rows capacity 0
+        → bus.layout ≡ layout_with Q.protocol senders rounds rows capacity 0 batch
         → HasRows bus.reuse → Closes X Q.protocol bus trails taken text → Reached X bus other
         → Closes X Q.protocol bus other taken text }
 {

@@ -20,7 +20,8 @@ use Rattle.bus_replica.specs.Replicas.{IsOpenWith}
 pub open_with : {C E : Type 0} (P : Process C) → ProcessLaws P → (result : Result ℕ E) (old new : C)
     (bytes : List ℕ) → OnOk result (CanPut (P.queue old) (length bytes))
     → OnOk result (new ≡ P.with_message old bytes)
-    → OnOk result (IsOpenWith (P.queue new) (length (P.queue old).messages + 1))
+    → OnOk result
+    (IsOpenWith (P.queue new) (P.queue old).limit (length (P.queue old).messages + 1))
 open_with P laws (Err e) old new bytes can taken = tt
 open_with P laws (Ok number) old new bytes can taken =
     grind (arith, common_steps, length, length-append)

@@ -244,9 +244,10 @@ pub record PutsNow {C : Type 0} (P : Process C) (old new : SenderSeat C) (number
   pub me_is : P.me new.core ≡ P.me old.core
   pub takes : TakesAll P old messages new
 
--- a batch takes messages, and so many wait in it
-abbrev pub IsOpenWith : Pending → ℕ → Type 0
-IsOpenWith b many = (b.phase ≡ Open) × (b.busy ≡ false) × (length b.messages ≡ many)
+-- a batch takes messages, at most so many, and so many wait in it
+abbrev pub IsOpenWith : Pending → ℕ → ℕ → Type 0
+IsOpenWith b limit many =
+    (b.phase ≡ Open) × (b.busy ≡ false) × (length b.messages ≡ many) × (b.limit ≡ limit)
 
 -- or it has put all of these messages, or nothing
 abbrev pub PutsAllOrNone : {C : Type 0} → Process C → Tellings C → SenderSeat C → SenderSeat C

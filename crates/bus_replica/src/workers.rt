@@ -8,7 +8,7 @@ ghost use Rattle.bus_automaton.specs.ThreeWordBuses.{process};
 ghost use Rattle.bus_core.specs.Seen.{tenure_begun};
 ghost use Rattle.bus_pageslot.specs.Rule.{known_in, receiver_view_in};
 ghost use Rattle.bus_pageslot.specs.Seats.{table_of};
-ghost use Rattle.bus_pageslot.specs.Sendings.{waiting_of};
+ghost use Rattle.bus_pageslot.specs.Sendings.{limit_of, waiting_of};
 ghost use Rattle.bus_replica.specs.Causes.{tells, HearsEnd, IsCause, IsEndCause, RefusesPut};
 ghost use Rattle.bus_replica.specs.Causes.{SaysOn, SaysStop, WasAnswered};
 ghost use Rattle.bus_replica.specs.Replicas.{IsFold, StandsLast, PutsAll, PutsNow, PutsStay};
@@ -28,7 +28,7 @@ use bus_batch::Message;
 use bus_deliverylog::Order;
 use bus_handles::{CloseFault, PutFault, ReceiverHandle, SenderHandle, SenderNo, ThreeWord, Turn};
 use bus_pageslot::sending_laws::senders_stay_who_they_are;
-use bus_register::limits::{MOST_BYTES, MOST_MESSAGES};
+use bus_register::limits::MOST_BYTES;
 use bus_waiting::Waiter;
 use std::marker::Model;
 use std::sync::Wait;
@@ -255,8 +255,9 @@ impl<S: State> Worker<S> {
         ensures refused { OnErr result (PutsStay process tells self.old.sender self.new.sender) }
         ensures fault { IfErr result (RefusesPut (process.queue self.old.sender.core)) }
     {
-        let room = MOST_MESSAGES - 2 - rest.len();
-        if self.sender.pending() as usize > room {
+        let most = self.sender.batch_limit() as usize;
+        let count = rest.len() + 2;
+        if count > most || self.sender.pending() as usize > most - count {
             return Err(self.why_full());
         }
         self.put_one(first.as_slice())?;
@@ -285,6 +286,7 @@ impl<S: State> Worker<S> {
         ensures put { IfOk result (λ number. PutsNow process self.old.sender self.new.sender
             number (op.now ∷ [])) }
         ensures open { OnOk result (IsOpenWith (process.queue self.new.sender.core)
+            (limit_of process self.old.sender)
             (length (waiting_of process self.old.sender) + 1)) }
         ensures refused { OnErr result (PutsStay process tells self.old.sender self.new.sender) }
         ensures fault { IfErr result
@@ -303,6 +305,7 @@ impl<S: State> Worker<S> {
         ensures me { (self.new.me ≡ self.old.me) × (self.new.state ≡ self.old.state) }
         ensures put { PutsNow process self.old.sender self.new.sender result (op.now ∷ []) }
         ensures open { IsOpenWith (process.queue self.new.sender.core)
+            (limit_of process self.old.sender)
             (length (waiting_of process self.old.sender) + 1) }
     {
         match self.put_one(op) {

@@ -73,6 +73,7 @@ keeps_electing width Belongs c t e e' f k at went goes =
       sizes = k.sizes;
       me_below = k.me_below;
       sender_is = k.sender_is;
+      limit_is = k.limit_is;
       phase = record {
         in_tenure = record { below = h.in_tenure.below; under_way = h.in_tenure.under_way };
         belongs = subst (Belongs (row_at c.layout t)) (sym went) (goes h.belongs);

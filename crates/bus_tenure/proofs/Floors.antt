@@ -1,6 +1,6 @@
 -- That the floor of a page does not fall.
 use Rattle.std.proofs.Common.{ℕ, ◌≤◌, Bool, true, false, cond, nat_lt, arith}
-use Rattle.bus_register.specs.declared.limits.TheConstants.{NUMBERS}
+use Rattle.bus_register.specs.declared.limits.TheConstants.{PLACES}
 use Rattle.bus_tenure.specs.declared.phases.Phase.{Phase}
 use Rattle.bus_tenure.specs.declared.phases.Phase.TheVariants.{Resting, Electing, Taken, Holding}
 use Rattle.bus_tenure.specs.declared.phases.Phase.TheVariants.{Giving}
@@ -27,6 +27,6 @@ floor_kept {E} width Belongs c least k = by c.phase k.phase where
   by (Electing t e) h low = omega arith
   by (Taken t) h low = omega arith
   by (Holding t page stored published) h low =
-      below_lesser page.floor (lesser least page.words) NUMBERS
+      below_lesser page.floor (lesser least page.words) PLACES
       (below_lesser page.floor least page.words low h.kept.behind) h.kept.few
   by (Giving t reason) h low = omega arith

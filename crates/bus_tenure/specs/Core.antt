@@ -24,6 +24,8 @@ pub record Layout : Type 0 where
   pub capacity : ℕ
   -- how many passed places there are: one for each receiver where the log is used again, else none
   pub passers : ℕ
+  -- how many messages a batch has at most
+  pub batch : ℕ
 
 abbrev pub length_at : ℕ
 length_at = 0

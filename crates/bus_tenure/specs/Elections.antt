@@ -49,13 +49,16 @@ election_with kind op fed P = record {
 abbrev pub election_of : {S : Type 0} → Ratifying S → Election (Elector S)
 election_of q = election_with q.kind_of q.op q.fed q.protocol
 
--- the sizes of a bus of so many senders, rounds, rows, log words and passed places
-abbrev pub layout_with : {S : Type 0} → Protocol S Bool Verdict → ℕ → ℕ → ℕ → ℕ → ℕ → Layout
-layout_with P senders rounds rows capacity passers = record {
+-- the sizes of a bus of so many senders, rounds, rows, log words, passed places and messages of a
+-- batch
+abbrev pub layout_with : {S : Type 0} → Protocol S Bool Verdict
+    → (senders rounds rows capacity passers batch : ℕ) → Layout
+layout_with P senders rounds rows capacity passers batch = record {
   senders = senders;
   rounds = rounds;
   rows = rows;
   width = (elections P rounds).width senders;
   capacity = capacity;
   passers = passers;
+  batch = batch;
 }

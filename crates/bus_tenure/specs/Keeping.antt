@@ -1,7 +1,7 @@
 -- What every sender keeps.
 use Rattle.std.specs.Prelude.{◌≡◌, ◌≢◌, ℕ, ◌+◌, ◌<◌, ◌≤◌, ◌^◌, Bool, true, false}
 use Rattle.bus_register.specs.declared.limits.TheConstants.{MOST_SENDERS, MOST_ROUNDS, TENURES}
-use Rattle.bus_register.specs.declared.limits.TheConstants.{MOST_RECEIVERS}
+use Rattle.bus_register.specs.declared.limits.TheConstants.{MOST_RECEIVERS, MOST_MESSAGES}
 use Rattle.bus_batch.specs.Batches.{Pending, HasSomething}
 use Rattle.bus_batch.specs.declared.batches.Phase.TheVariants.{Closed}
 use Rattle.bus_tenure.specs.declared.pages.Page.{Page}
@@ -20,6 +20,8 @@ pub record AreSizes (x : Layout) (width : ℕ) : Type 0 where
   pub rows_few : x.rows ≤ TENURES
   pub capacity_few : x.capacity ≤ 2 ^ 20
   pub passers_few : x.passers ≤ MOST_RECEIVERS
+  pub batch_some : 1 ≤ x.batch
+  pub batch_few : x.batch ≤ MOST_MESSAGES
   pub width_is : x.width ≡ width
   pub room : words_of x ≤ 2 ^ 63
 
@@ -56,10 +58,11 @@ PhaseKeeps Belongs c (Taken t) = IsInTenure c t
 PhaseKeeps Belongs c (Holding t page stored published) = IsHolding c t page stored published
 PhaseKeeps Belongs c (Giving t reason) = IsInTenure c t
 
--- the batch is the sender's own, and as the phase has it
+-- the batch is the sender's own, of as many messages as a batch of the bus, and as the phase has it
 pub record SenderInvariant {E : Type 0} (width : ℕ) (Belongs : ℕ → E → Type 0) (c : Core E) :
     Type 0 where
   pub sizes : AreSizes c.layout width
   pub me_below : c.me < c.layout.senders
   pub sender_is : c.queue.sender.0 ≡ c.me
+  pub limit_is : c.queue.limit ≡ c.layout.batch
   pub phase : PhaseKeeps Belongs c c.phase

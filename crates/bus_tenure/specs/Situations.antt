@@ -3,7 +3,7 @@
 -- answers after it, and what becomes of the page and of the frame.
 use Rattle.std.specs.Prelude.{ℕ, ◌+◌, ◌-◌, ◌*◌, ◌/◌, ◌%◌, Bool, true, false, Option, Some, None}
 use Rattle.std.specs.Prelude.{[], nat_lt, nat_le, ◌==◌, ◌&&◌, if◌then◌else◌, is_some, slice_index}
-use Rattle.bus_register.specs.declared.limits.TheConstants.{NUMBERS}
+use Rattle.bus_register.specs.declared.limits.TheConstants.{PLACES}
 use Rattle.bus_register.specs.declared.kinds.Kind.{Kind}
 use Rattle.bus_register.specs.declared.kinds.Kind.TheVariants as kind
 use Rattle.bus_register.specs.declared.registers.Op.{Op}
@@ -182,8 +182,7 @@ answer_of_election c t (Some o) = if o == c.me then turn.Going else turn.Lost t 
 -- ---- what the end of a tenure leaves
 -- the queue back from a tenure: its contents kept, or sent, or kept for good
 abbrev pub queue_after : Reason → Pending → Pending
-queue_after Sent q = record {
-  sender = q.sender;
+queue_after Sent q = record q {
   first = next_of q;
   messages = [];
   phase = phase_sent q.phase;
@@ -203,14 +202,14 @@ core_at_rest c reason t = record c {
 abbrev pub lesser : ℕ → ℕ → ℕ
 lesser a b = if nat_lt a b then a else b
 
--- the page that lies before a sender gets this floor, but none past its words, and a number of
+-- the page that lies before a sender gets this floor, but none past its words, and a place of
 -- those that there are
 abbrev pub phase_floored : {E : Type 0} → ℕ → Phase E → Phase E
 phase_floored least Resting = Resting
 phase_floored least (Electing t e) = Electing t e
 phase_floored least (Taken t) = Taken t
 phase_floored least (Holding t page stored published) = Holding t (record page {
-  floor = lesser (lesser least page.words) NUMBERS;
+  floor = lesser (lesser least page.words) PLACES;
 }) stored published
 phase_floored least (Giving t reason) = Giving t reason
 

@@ -7,7 +7,7 @@
 //! use bus_register::SenderNo;
 //! use bus_tenure::{Doing, Turn, Turns};
 //!
-//! let mut turns = Turns::<ThreeWord>::new(1, SenderNo(0), 1, 4, 16, 0, 0);
+//! let mut turns = Turns::<ThreeWord>::new(1, SenderNo(0), 1, 4, 16, 0, 0, 16);
 //! assert_eq!(rt; turns.doing(), Doing::Rests(Turn::Idle));
 //! assert_eq!(rt; turns.put(b"a"), Ok(0));
 //! assert_eq!(rt; turns.doing(), Doing::Looks);

@@ -3,7 +3,7 @@
 ghost use Rattle.std.specs.Prelude.{◌≡◌, ◌<◌, ◌≤◌, IfOk, slice_set, true, if◌then◌else◌};
 ghost use Rattle.bus_tenure.specs.Paging.{PageKeeps};
 
-use bus_register::limits::{MOST_SENDERS, NUMBERS};
+use bus_register::limits::{MOST_SENDERS, PLACES};
 use bus_register::{NoMemory, SenderNo};
 use std::alloc::Global;
 use std::marker::Model;
@@ -78,7 +78,7 @@ impl OwnedPage {
     /// So far are all receivers past.
     pub(crate) fn set_floor(&mut self, floor: u64)
         requires behind { floor ≤ self.old.words }
-        requires few { floor ≤ NUMBERS }
+        requires few { floor ≤ PLACES }
         ensures { self.new ≡ record self.old { floor = floor } }
     {
         self.page.floor = floor;

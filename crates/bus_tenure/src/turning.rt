@@ -35,7 +35,7 @@ use bus_adoptcommit::Ratifier;
 use bus_batch::Batch;
 use bus_ownerbits::Election;
 use bus_register::limits::{
-    MOST_BODY_WORDS, MOST_RECEIVERS, MOST_ROUNDS, MOST_SENDERS, NUMBERS, TENURES,
+    MOST_BODY_WORDS, MOST_MESSAGES, MOST_RECEIVERS, MOST_ROUNDS, MOST_SENDERS, NUMBERS, TENURES,
 };
 use bus_register::{Kind, Machine, Op, Reg, SenderNo};
 use std::marker::Model;
@@ -80,6 +80,7 @@ impl<Q: Ratifier> Model for Turns<Q> {
         width = c.sizes.width;
         capacity = c.sizes.capacity;
         passers = c.sizes.passers;
+        batch = c.batch.limit;
       };
       me = c.me.0;
       queue = c.batch;
@@ -98,6 +99,7 @@ impl<Q: Ratifier> Model for Turns<Q> {
             width = c.sizes.width;
             capacity = c.sizes.capacity;
             passers = c.sizes.passers;
+            batch = c.batch.limit;
           };
           me = c.me.0;
           queue = c.batch;
@@ -108,7 +110,7 @@ impl<Q: Ratifier> Model for Turns<Q> {
 
 impl<Q: Ratifier + Drop> Turns<Q> {
     /// Sender `me` of so many, with nothing pending, of a bus of so many rounds for each bit, rows,
-    /// log words and passed places. Its first message gets the number `first`.
+    /// log words, passed places and messages of a batch. Its first message gets the number `first`.
     pub fn new(
         senders: u64,
         me: SenderNo,
@@ -117,6 +119,7 @@ impl<Q: Ratifier + Drop> Turns<Q> {
         log_words: u64,
         first: u64,
         passers: u64,
+        batch: u64,
     ) -> Turns<Q>
         requires me_below { me.0 < senders }
         requires few { senders ≤ MOST_SENDERS }
@@ -125,14 +128,16 @@ impl<Q: Ratifier + Drop> Turns<Q> {
         requires rows_few { rows ≤ TENURES }
         requires log_few { log_words ≤ 2 ^ 20 }
         requires passers_few { passers ≤ MOST_RECEIVERS }
-        requires room { words_of (layout_with Q.protocol senders rounds rows log_words passers)
-            ≤ 2 ^ 63 }
+        requires batch { (1 ≤ batch) × (batch ≤ MOST_MESSAGES) }
+        requires room { words_of (layout_with Q.protocol senders rounds rows log_words passers
+            batch) ≤ 2 ^ 63 }
         requires numbers { first ≤ NUMBERS }
         ensures { result ≡ record {
-          layout = layout_with Q.protocol senders rounds rows log_words passers;
+          layout = layout_with Q.protocol senders rounds rows log_words passers batch;
           me = me.0;
           queue = record {
             sender = me;
+            limit = batch;
             first = first;
             messages = [];
             phase = queue_phase.Open;
@@ -152,7 +157,7 @@ impl<Q: Ratifier + Drop> Turns<Q> {
                 passers,
             },
             me,
-            batch: Batch::new(me, first),
+            batch: Batch::new(me, first, batch),
             least: 0,
             phase: Phase::Resting,
         }

@@ -15,8 +15,7 @@ use Rattle.bus_ownerbits.specs.OneOwner.{OneOwner}
 use Rattle.bus_tenure.specs.Core.{Core, Election, Layout, words_of}
 use Rattle.bus_world.specs.World.{IsLayout, AreBases, no_bases, first_page}
 use Rattle.bus_world.specs.Private.Sending.{Part, Sending, standing_of, least_of}
-use Rattle.bus_world.specs.Log.{first_numbers, KeepsFloor, Knows}
-use Rattle.bus_world.specs.declared.limits.TheConstants.{FIRST_RING_NUMBERS}
+use Rattle.bus_world.specs.Log.{first_numbers, ring_numbers, KeepsFloor, Knows}
 use Rattle.bus_world.specs.Private.Tenures.{Standing}
 use Rattle.bus_world.specs.Private.Tenures.Standing.{Rests}
 use Rattle.bus_world.specs.Private.Machines.{Bus, IsNew, new_core}
@@ -38,19 +37,19 @@ no_bases_are = record {
 
 -- where no word of the log is used again
 pub flat_low : (x : Layout) (bases : List ℕ) → x.passers ≡ 0 → AreBases bases → (s : ℕ)
-    → slice_index bases s < first_numbers x.passers
+    → slice_index bases s < first_numbers x.passers x.batch
 flat_low x bases flat are s =
-    subst (λ n. slice_index bases s < first_numbers n) (sym flat) (are.low s)
+    subst (λ n. slice_index bases s < first_numbers n x.batch) (sym flat) (are.low s)
 
 -- and where words of the log are used again, by the lower limit
 pub bases_low : (x : Layout) (bases : List ℕ) → AreBases bases
-    → (0 < x.passers → (s : ℕ) → slice_index bases s < FIRST_RING_NUMBERS)
-    → (s : ℕ) → slice_index bases s < first_numbers x.passers
+    → (0 < x.passers → (s : ℕ) → slice_index bases s < ring_numbers x.batch)
+    → (s : ℕ) → slice_index bases s < first_numbers x.passers x.batch
 bases_low x bases are ring s = grind (arith, common_steps, slice_index, zero, suc)
 
 module _ {E : Type 0} (X : Election E) (P : Protocol E (Unit {0}) ℕ)
     (laws : Laws X.op X.fed P OneOwner) (x : Layout) (ok : IsLayout x) (bases : List ℕ)
-    (are : AreBases bases) (low : (s : ℕ) → slice_index bases s < first_numbers x.passers)
+    (are : AreBases bases) (low : (s : ℕ) → slice_index bases s < first_numbers x.passers x.batch)
     (words : ℕ → ℕ) (zero_at : (r : ℕ) → words r ≡ 0) (senders : ℕ → Option (Core E))
     (new : (p : ℕ) (c : Core E) → senders p ≡ Some c
     → (p < x.senders) × (c ≡ new_core x (slice_index bases p) p)) where

@@ -1,9 +1,12 @@
--- How many items a log can have: a frame has a head and at most 16 messages, each of one word or
--- more. And how many words: it is of a tenure of its own, of which there are 2^40.
+-- How many items a log can have: a frame has a head and so many messages at most, each of one word
+-- or more. And how many words: it is of a tenure of its own, of which there are 2^40.
 use Rattle.std.proofs.Common.{◌≡◌, ℕ, ◌+◌, ◌*◌, ◌^◌, ◌<◌, ◌≤◌, List, [], ◌∷◌, length, map, flat_map}
 use Rattle.std.proofs.Common.{arith, sym, subst}
+use Rattle.std.proofs.Math.Nat.{mul-le-mul_left}
 use Rattle.std.proofs.lemmas.List.{length-append}
+use Rattle.std.proofs.lemmas.List.Elements.{All-head, All-tail}
 use Rattle.std.proofs.lemmas.Grind.{common_steps}
+use Rattle.std.specs.Prelude.{All}
 use Rattle.bus_register.specs.declared.limits.TheConstants.{TENURES}
 use Rattle.bus_register.specs.declared.registers.SenderNo.{SenderNo}
 use Rattle.bus_batch.specs.Messages.{Numbered}
@@ -53,18 +56,14 @@ frames_few senders least (f ∷ frames) low lawful =
     let above = lawful.1 in
     let more = frames_few senders (f.tenure + 1) frames (omega arith) lawful.3 in omega arith
 
-items_from : (senders least : ℕ) (frames : List Frame) → AreFramesFrom senders least frames
-    → length (flat_map items_of frames) ≤ 16 * length frames
-items_from senders least [] lawful = omega arith
-items_from senders least (f ∷ frames) lawful =
+items_from : (batch : ℕ) (frames : List Frame) → All (λ f. length (items_of f) ≤ batch) frames
+    → length (flat_map items_of frames) ≤ batch * length frames
+items_from batch [] few = omega arith
+items_from batch (f ∷ frames) few =
     let a = length-append (items_of f) (flat_map items_of frames) in
-    let b = body_many f.owner f.body lawful.0.body in
-    let e = items_from senders (f.tenure + 1) frames lawful.3 in omega arith
-  where
-    body_many : (owner : SenderNo) (b : Body) → IsBody b → length (body_items owner b) ≤ 16
-    body_many owner (Messages ms) is =
-        let many = items_many owner ms in let few = is.1 in omega arith
-    body_many owner (Marked m) is = omega arith
+    let b = All-head (λ g. length (items_of g) ≤ batch) f frames few in
+    let e = items_from batch frames (All-tail (λ g. length (items_of g) ≤ batch) f frames few) in
+    omega arith
 
 words_from : (senders least : ℕ) (frames : List Frame) → AreFramesFrom senders least frames
     → length (log_words frames) ≤ 129 * length frames
@@ -74,10 +73,16 @@ words_from senders least (f ∷ frames) lawful =
     let b = body_most f.body lawful.0.body in
     let e = words_from senders (f.tenure + 1) frames lawful.3 in omega arith
 
-pub items_low : (senders : ℕ) (frames : List Frame) → AreFrames senders frames
-    → length (items_in (order_of frames).entries) ≤ 2 ^ 44
-items_low senders frames lawful = grind (arith, length, entries_are_items, frames_few, items_from)
+pub items_low : (senders batch : ℕ) (frames : List Frame) → AreFrames senders frames
+    → All (λ f. length (items_of f) ≤ batch) frames
+    → length (items_in (order_of frames).entries) ≤ batch * 2 ^ 40
+items_low senders batch frames lawful few =
+    let many : length frames ≤ 2 ^ 40 =
+    (let m = frames_few senders 0 frames (omega arith) lawful in omega arith) in
+    let all = mul-le-mul_left batch many in
+    let each = items_from batch frames few in
+    subst (λ z. length z ≤ batch * 2 ^ 40) (sym (entries_are_items frames)) (omega arith)
 
 pub words_low : (senders : ℕ) (frames : List Frame) → AreFrames senders frames
-    → length (log_words frames) < 2 ^ 48
+    → length (log_words frames) < 2 ^ 50
 words_low senders frames lawful = grind (arith, common_steps, frames_few, words_from)

@@ -182,8 +182,8 @@ module _ {E : Type 0} (X : Election E) (P : Protocol E (Unit {0}) ℕ)
     floors_same words' V' long same = floors_over x rows y.reclamation.words y.passing y.receivers
         frames (V 0) k.floor k.floors words' (V' 0) long same
 
-    -- a length is a number below 2^48
-    length_low : V 0 < 2 ^ 48
+    -- a length is below 2^50
+    length_low : V 0 < 2 ^ 50
     length_low =
         let size = length-logged k.sending.log in
         let low = words_low x.senders frames k.sending.log.lawful in omega arith
@@ -248,7 +248,7 @@ module _ {E : Type 0} (X : Election E) (P : Protocol E (Unit {0}) ℕ)
           → ((r : ℕ) → r < x.passers
           → words' (passed_place x rows r) ≡ y.reclamation.words (passed_place x rows r))
           → AreFloors x rows words' y.passing y.receivers frames (V' 0) k.floor
-      pub length_low : V 0 < 2 ^ 48
+      pub length_low : V 0 < 2 ^ 50
       pub participants_on : (v : Pin) (c' : Core E) → IsParticipant v c' → (q : ℕ) (d : Core E)
           → put p (Some c') y.senders q ≡ Some d → IsParticipant (put p v y.reclamation.pins q) d
       pub tied : (V' : ℕ → ℕ) (c' : Core E) (senders' : ℕ → Option (Core E))

@@ -24,7 +24,7 @@ use Rattle.bus_batch.specs.Reading.{is_between}
 use Rattle.bus_deliverylog.specs.Receiving.{Receiving, passing_due, load_op, op_by, receiving_op}
 use Rattle.bus_deliverylog.specs.Receiving.{leaving_by, leaving_op, with_leave}
 use Rattle.bus_deliverylog.proofs.ReceiveLaws.{due_at}
-use Rattle.bus_register.specs.declared.limits.TheConstants.{NUMBERS, PASSED_ALL}
+use Rattle.bus_register.specs.declared.limits.TheConstants.{PLACES, PASSED_ALL}
 use Rattle.bus_register.specs.Tables.{put}
 use Rattle.bus_register.specs.Private.TableLaws.{put_here, put_beside}
 use Rattle.bus_presence.specs.Reclamation.{Stores, Then}
@@ -213,7 +213,7 @@ module _ {E : Type 0} (X : Election E) (P : Protocol E (Unit {0}) ℕ)
           } hears)
       | inr past ↦ grind (arith, common_steps, its, stays_kept, true≢false)
     ] where
-      few : V 0 < NUMBERS
+      few : V 0 < PLACES
       few =
           let size = length-logged k.sending.log in
           let low = words_low x.senders frames k.sending.log.lawful in omega arith

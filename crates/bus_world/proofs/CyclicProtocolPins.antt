@@ -391,6 +391,7 @@ module _ {E : Type 0} (X : Election E) (P : Protocol E (Unit {0}) ℕ)
                       me = part.me;
                       below = part.below;
                       sender = part.sender;
+                      limit = part.limit;
                       queue = part.queue;
                       fits = subst (Fits (slice_index y.bases) V frames c') (sym rests) fits;
                     };

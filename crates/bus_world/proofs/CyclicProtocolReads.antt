@@ -25,7 +25,7 @@ use Rattle.bus_world.specs.Private.CyclicProtocols.{CyclicProtocol}
 use Rattle.bus_world.specs.Trails.{actions_with}
 use Rattle.bus_core.specs.Reusing.Passing.{passing_fed, core_passed}
 use Rattle.bus_core.specs.declared.reuses.Passing.{Passing}
-use Rattle.bus_register.specs.declared.limits.TheConstants.{NUMBERS}
+use Rattle.bus_register.specs.declared.limits.TheConstants.{PLACES}
 use Rattle.std.proofs.lemmas.Bool.Decides.{eqb_tells}
 use Rattle.std.proofs.lemmas.Grind.{common_steps}
 use Rattle.bus_tenure.specs.Situations.{lesser, core_floored, phase_floored}
@@ -190,7 +190,7 @@ module _ {E : Type 0} (X : Election E) (P : Protocol E (Unit {0}) ℕ)
 
         -- and with the last one its page gets the floor
         abbrev floor_read : ℕ
-        floor_read = lesser (lesser passing'.least page.words) NUMBERS
+        floor_read = lesser (lesser passing'.least page.words) PLACES
 
         read_one : HasKept H (loaded_now c) T (actions_with p read_step D) L
         read_one = subst (λ w. HasKept H (loaded_now w) T (actions_with p read_step D) L) (sym same)
@@ -212,8 +212,8 @@ module _ {E : Type 0} (X : Election E) (P : Protocol E (Unit {0}) ℕ)
             let size = length-logged k.sending.log in
             let risen = floors_risen x rows y.reclamation.words passing' y.receivers frames (V 0)
             k.floor read_floors (omega arith) (omega arith) size length_low in
-            let is : floor_read ≡ lesser (lesser passing'.least (V 0)) NUMBERS =
-            ap (λ n. lesser (lesser passing'.least n) NUMBERS) knows in
+            let is : floor_read ≡ lesser (lesser passing'.least (V 0)) PLACES =
+            ap (λ n. lesser (lesser passing'.least n) PLACES) knows in
             let goes : core_floored c passing'.least
             ≡ record c {
               phase = phase.Holding t (record page { floor = floor_read }) stored published;
@@ -221,7 +221,7 @@ module _ {E : Type 0} (X : Election E) (P : Protocol E (Unit {0}) ℕ)
             let higher = risen.0 in let low = risen.1.low in
             subst (λ w. HasKept H (loaded_now w) T (actions_with p read_step D) L) (sym goes)
             (read_on (record page { floor = floor_read })
-            (lesser (lesser passing'.least (V 0)) NUMBERS)
+            (lesser (lesser passing'.least (V 0)) PLACES)
             is higher risen.1
             (holders.raises X P laws x ok width V y.home y.senders y.owners frames k.sending p c
             (record c {

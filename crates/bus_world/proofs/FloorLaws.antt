@@ -8,7 +8,7 @@ use Rattle.std.proofs.lemmas.List.{append-nil, length-append, length-take, take-
 use Rattle.std.proofs.lemmas.Grind.{flat_map-append, common_steps}
 use Rattle.std.proofs.lemmas.List.Elements.{All-nil}
 use Rattle.std.proofs.lemmas.Option.{same_Some}
-use Rattle.bus_register.specs.declared.limits.TheConstants.{NUMBERS, PASSED_ALL}
+use Rattle.bus_register.specs.declared.limits.TheConstants.{PLACES, PASSED_ALL}
 use Rattle.bus_register.specs.Tables.{put}
 use Rattle.bus_register.specs.Private.TableLaws.{put_here, put_beside}
 use Rattle.bus_batch.proofs.Feeding.{whole_log}
@@ -55,7 +55,8 @@ pub place_begins : (n : ℕ) (frames : List Frame) (len place known : ℕ) (read
     → length (log_words frames) ≡ len → is_between reading.place ≡ true
     → IsBoundary frames place
 place_begins n frames len place known reading h lawful size is =
-    let read = whole_log n (take place (log_words frames)) (take place (log_pieces frames)) reading
+    let read = whole_log _ n (take place (log_words frames)) (take place
+    (log_pieces frames)) reading
     h.has_read (between reading reading.place is) in
     let begun = frames_begin n 0 0 read.frames frames (drop place (log_words frames)) read.lawful
     lawful
@@ -105,7 +106,7 @@ module _ (x : Layout) (rows : ℕ) where
     floors_later more len' longer = grind (arith, common_steps, boundary_later)
 
     -- ---- a tenure begins
-    pub floors_begun : len < NUMBERS
+    pub floors_begun : len < PLACES
         → AreFloors x rows words passing_begun receivers frames len floor
     floors_begun few = grind (arith, common_steps)
 
@@ -117,10 +118,10 @@ module _ (x : Layout) (rows : ℕ) where
 
     -- and with the last one the floor rises
     abbrev risen : ℕ
-    risen = lesser (lesser passing.least len) NUMBERS
+    risen = lesser (lesser passing.least len) PLACES
 
     module _ (some : 0 < x.passers) (all : x.passers ≤ passing.loaded)
-        (size : length (log_words frames) ≡ len) (few : len < NUMBERS) where
+        (size : length (log_words frames) ≡ len) (few : len < PLACES) where
       risen_is : ((risen ≡ passing.least) × (passing.least ≤ len))
           ⊎ ((risen ≡ len) × (len ≤ passing.least))
       risen_is = grind (arith, common_steps, lesser_is)
@@ -268,6 +269,6 @@ module _ (x : Layout) (rows : ℕ) where
           }
 
     -- what a passed place shows is at most the number that stands for all words
-    pub shown_low : length (log_words frames) ≡ len → len < NUMBERS → (r : ℕ) → r < x.passers
+    pub shown_low : length (log_words frames) ≡ len → len < PLACES → (r : ℕ) → r < x.passers
         → shown words r ≤ PASSED_ALL
     shown_low size few r l = grind (arith, common_steps, boundary_low)

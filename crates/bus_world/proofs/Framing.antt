@@ -199,7 +199,8 @@ no_end front f (Messages ms) last = refl
 no_end front f (Marked mark.Leave) last = refl
 no_end front f (Marked mark.End) last = absurd (not_nil front f (last refl))
 
-all_before : (P : Frame → Type 0) (front more : List Frame) → All P (front ++ more) → All P front
+pub all_before : (P : Frame → Type 0) (front more : List Frame) → All P (front ++ more)
+    → All P front
 all_before P front more all k d l = subst P (get_or_append_left front more d k l)
     (all k d (let many = length-append front more in omega arith))
 

@@ -38,7 +38,7 @@ use Rattle.bus_world.specs.World.{IsLayout}
 use Rattle.bus_world.proofs.SenderParts.{still_here, Knows-len, part_of, IsUnsent, left_shut}
 use Rattle.bus_world.proofs.SenderParts.{noted_own, noted_other, not_busy, sender_after, none_short}
 use Rattle.bus_world.proofs.SenderParts.{unsent_goes_on, unsent_queue, unsent_knows}
-use Rattle.bus_world.proofs.SenderParts.{floor_after, AreOwned-append}
+use Rattle.bus_world.proofs.SenderParts.{limit_after, floor_after, AreOwned-append}
 use Rattle.bus_world.proofs.BusLaws as bus
 
 module _ {E : Type 0} (X : Election E) (P : Protocol E (Unit {0}) ℕ)
@@ -231,9 +231,15 @@ module _ {E : Type 0} (X : Election E) (P : Protocol E (Unit {0}) ℕ)
           still_open = sym written.1.page_knows.ended ∙ is_open
 
           frame_lawful : IsFrame x.senders f
-          frame_lawful = is_frame c.queue x.senders t written.0.something own_part.queue
+          frame_lawful = is_frame 16 c.queue x.senders t own_part.queue.limit_few
+              written.0.something own_part.queue
               (let a = sender_is in let b = own_part.below in omega arith)
               (let a = in_rows in let b = ok.rows in omega arith)
+
+          frame_short : length (items_of f) ≤ x.batch
+          frame_short =
+              let a = length-items c.queue t own_part.queue in
+              let b = own_part.queue.few in let e = own_part.limit in omega arith
 
           all_stored : stored ≡ frame_len c
           all_stored = let a = written.1.stored_below in omega arith
@@ -268,7 +274,8 @@ module _ {E : Type 0} (X : Election E) (P : Protocol E (Unit {0}) ℕ)
                 (L-same (ap (λ z. z.least) goes)) refl;
             log = subst (λ z. Logged base x words' z (frames ++ f ∷ [])) (sym len_now)
                 (Logged-agree x words (words 0 + length (frame_words f)) (frames ++ f ∷ [])
-                (Logged-publish x words (words 0) frames h.log f frame_lawful still_open has_stayed
+                (Logged-publish x words (words 0) frames h.log f frame_lawful frame_short still_open
+                has_stayed
                 written.1.earlier counts whole fits_flat)
                 words' (λ r a b. elsewhere r (omega arith)));
             owned = AreOwned-append owners frames f h.owned (held.2 ∙ ap Some (sym sender_is));
@@ -332,6 +339,7 @@ module _ {E : Type 0} (X : Election E) (P : Protocol E (Unit {0}) ℕ)
                   below = own_part.below;
                   sender =
                       ap (λ (z : SenderNo). z.0) (sender_after reason c.queue) ∙ own_part.sender;
+                  limit = limit_after reason c.queue ∙ own_part.limit;
                   queue = queue_now;
                   fits = rests_now;
                 });
@@ -389,6 +397,8 @@ module _ {E : Type 0} (X : Election E) (P : Protocol E (Unit {0}) ℕ)
                 λ gone. (left_shut c.queue.phase (sym gone_now ∙ gone), refl),
               )
               record {
+                limit_some = own_part.queue.limit_some;
+                limit_few = own_part.queue.limit_few;
                 few = omega arith;
                 each = none_short;
                 numbers = (let a = own_part.queue.numbers in omega arith);

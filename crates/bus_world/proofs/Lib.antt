@@ -6,8 +6,8 @@ pub mod Waiting
 pub mod TenuresLaws
 -- What a new frame, and a word past the length, do to the log.
 pub mod LogLaws
--- How many items a log can have: a frame has a head and at most 16 messages, each of one word or
--- more.
+-- How many items a log can have: a frame has a head and so many messages at most, each of one word
+-- or more.
 pub mod Bounds
 -- The frame of a batch.
 pub mod FrameOfBatch

@@ -6,9 +6,10 @@ use Rattle.std.proofs.Math.Bool.{or-false}
 use Rattle.std.proofs.lemmas.Bool.{cases_eq, eq-eqb, ne_eqb, or_parts, true≢false, cases_lt}
 use Rattle.std.proofs.lemmas.Grind.{common_steps, flat_map-append}
 use Rattle.std.proofs.lemmas.List.{append-nil, length-append, get_or_append_left}
-use Rattle.std.proofs.lemmas.List.Elements.{All-append, All-nil, All-from_recursion, filter-append}
+use Rattle.std.proofs.lemmas.List.Elements.{All-append, All-cons, All-nil, All-from_recursion}
+use Rattle.std.proofs.lemmas.List.Elements.{filter-append}
 use Rattle.std.proofs.lemmas.List.Folds.{list_any-append}
-use Rattle.std.specs.List.{list_any}
+use Rattle.std.specs.List.{list_any, All}
 use Rattle.bus_register.specs.Tables.{Agree}
 use Rattle.bus_batch.specs.declared.messages.Item.{Item}
 use Rattle.bus_batch.specs.declared.messages.Mark.TheVariants as mark
@@ -227,14 +228,18 @@ module _ {base : ℕ → ℕ} (x : Layout) (words : ℕ → ℕ) (len : ℕ) (fr
   Logged-agree words' same = grind (arith, common_steps, read-agree)
 
   -- a frame whose words stand past the length is published by raising the length
-  pub Logged-publish : (f : Frame) → IsFrame x.senders f → has_end frames ≡ false
+  pub Logged-publish : (f : Frame) → IsFrame x.senders f → length (items_of f) ≤ x.batch
+      → has_end frames ≡ false
       → has_gone f.owner.0 (order_of frames) ≡ false → AreEarlier f.tenure frames
       → AreCounted (next_number base f.owner.0 frames) (items_of f)
       → words_read_from words (log_at x + len) (length (frame_words f)) ≡ frame_words f
       → (x.passers ≡ 0 → len + length (frame_words f) ≤ x.capacity)
       → Logged base x words (len + length (frame_words f)) (frames ++ f ∷ [])
-  Logged-publish f is open_ended stays earlier counts stored fits = record {
+  Logged-publish f is short open_ended stays earlier counts stored fits = record {
     lawful = grind (arith, common_steps, AreFramesFrom-append);
+    few = All-append (λ g. length (items_of g) ≤ x.batch) frames (f ∷ []) h.few
+        (All-cons (λ g. length (items_of g) ≤ x.batch) f [] short
+        (All-nil (λ g. length (items_of g) ≤ x.batch)));
     words_are = grind (arith, common_steps, read-add, length, log_words-append);
     fits = fits;
     low = h.low;

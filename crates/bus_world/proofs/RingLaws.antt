@@ -6,7 +6,7 @@ use Rattle.std.proofs.Math.Nat.{mod-eq_of_lt}
 use Rattle.std.proofs.Math.Seq.{take-length}
 use Rattle.std.proofs.lemmas.List.{get_or-drop, length-drop, take_more}
 use Rattle.std.proofs.lemmas.Grind.{common_steps}
-use Rattle.bus_register.specs.declared.limits.TheConstants.{NUMBERS}
+use Rattle.bus_register.specs.declared.limits.TheConstants.{PLACES}
 use Rattle.bus_batch.specs.Frames.{Frame, AreFrames, Spells, log_words, order_of, tenure_and_owner}
 use Rattle.bus_core.specs.Reusing.Participants.{passed_from, log_from}
 use Rattle.bus_tenure.specs.Core.{Layout}
@@ -28,7 +28,7 @@ ring_straight words at capacity (suc k) few =
 
 module _ (x : Layout) (rows : ℕ) (words : ℕ → ℕ) (frames : List Frame) (log : List ℕ) (floor : ℕ)
     (h : ShowsRing x rows words frames log floor) (words_are : log_words frames ≡ log)
-    (few : length log < NUMBERS) where
+    (few : length log < PLACES) where
   abbrev least : ℕ → ℕ
   least n = least_passed words (passed_from x rows) n (words 0)
 

@@ -77,6 +77,7 @@ Part-agree {base} x words words' frames p c agree len h = record {
   me = h.me;
   below = h.below;
   sender = h.sender;
+  limit = h.limit;
   queue = h.queue;
   fits = Fits-agree base x words words' frames c h.layout agree len c.phase h.fits;
 }
@@ -107,6 +108,7 @@ Part-rests {base} x words words' frames frames' p c free e h = record {
   me = h.me;
   below = h.below;
   sender = h.sender;
+  limit = h.limit;
   queue = h.queue;
   fits = Fits-rests base words words' frames frames' c c.phase free
       (subst (λ z. SaySame base z frames frames') (sym h.me) e) h.fits;
@@ -127,6 +129,11 @@ pub sender_after : (reason : Reason) (q : Pending) → (queue_after reason q).se
 sender_after Sent q = refl
 sender_after FoundEnd q = refl
 sender_after NoRoom q = refl
+
+pub limit_after : (reason : Reason) (q : Pending) → (queue_after reason q).limit ≡ q.limit
+limit_after Sent q = refl
+limit_after FoundEnd q = refl
+limit_after NoRoom q = refl
 
 pub none_short : All IsMessage []
 none_short = All-from_recursion IsMessage [] tt

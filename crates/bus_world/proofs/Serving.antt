@@ -83,11 +83,11 @@ module _ {S : Type 0} (kind_of : S → Option Kind) (op : S → ℕ → Option O
     (P : Protocol S Bool Verdict)
     (named : (s : S) (word : ℕ) → is_some (kind_of s) ≡ is_some (op s word))
     (own_kinds : (s : S) (k : Kind) → kind_of s ≡ Some k → IsOfRatifier k)
-    (senders rounds rows capacity passers : ℕ)
+    (senders rounds rows capacity passers batch : ℕ)
     (laws : Laws (election_with kind_of op fed P).op (election_with kind_of op fed P).fed
     (elections P rounds) OneOwner) where
   pub serves : Serves (election_with kind_of op fed P) (elections P rounds)
-      (layout_with P senders rounds rows capacity passers)
+      (layout_with P senders rounds rows capacity passers batch)
   serves = record {
     laws = laws;
     width = refl;

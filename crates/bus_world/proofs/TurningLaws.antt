@@ -313,6 +313,7 @@ module _ {base : ℕ → ℕ} {E : Type 0} (X : Election E) (P : Protocol E (Uni
               me = part.me;
               below = part.below;
               sender = part.sender;
+              limit = part.limit;
               queue = part.queue;
               fits = electing_fits;
             }
@@ -336,6 +337,7 @@ module _ {base : ℕ → ℕ} {E : Type 0} (X : Election E) (P : Protocol E (Uni
               me = part.me;
               below = part.below;
               sender = part.sender;
+              limit = part.limit;
               queue = grind (arith, common_steps, part);
               fits = (refl, electing_fits.1);
             }

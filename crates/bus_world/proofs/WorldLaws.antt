@@ -468,9 +468,9 @@ module _ {E : Type 0} (X : Election E) (P : Protocol E (Unit {0}) ℕ)
         by_test true e =
             let tests =
             (and_parts (is_open c.queue.phase) (cond c.queue.busy false true
-            && (nat_le (length bytes) 56 && nat_lt (length c.queue.messages) 16)) e).1 in
+            && (nat_le (length bytes) 56 && nat_lt (length c.queue.messages) c.queue.limit)) e).1 in
             let idle = not_busy c.queue.busy (and_parts (cond c.queue.busy false true)
-            (nat_le (length bytes) 56 && nat_lt (length c.queue.messages) 16) tests).0 in
+            (nat_le (length bytes) 56 && nat_lt (length c.queue.messages) c.queue.limit) tests).0 in
             grind (arith, common_steps, idle_rests, slice_index, waiting_at)
 
     mark_waits : (c : Core E) (m : Mark) → Fits base (slice_index b.side.words) frames c c.phase

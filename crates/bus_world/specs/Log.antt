@@ -1,14 +1,14 @@
 -- The words of a log, the numbers of its items, and the page that knows of it.
-use Rattle.std.specs.Prelude.{◌≡◌, ℕ, zero, suc, ◌+◌, ◌<◌, ◌≤◌, Option, Some, None, List, []}
+use Rattle.std.specs.Prelude.{◌≡◌, ℕ, zero, suc, ◌+◌, ◌-◌, ◌<◌, ◌≤◌, Option, Some, None, List, []}
 use Rattle.std.specs.Prelude.{◌∷◌, ◌++◌, ◌*◌, ◌%◌, length, slice_get, slice_index}
 use Rattle.bus_core.specs.declared.limits.TheConstants.{PASSED_APART}
 use Rattle.bus_tenure.specs.Situations.{lesser}
-use Rattle.bus_register.specs.declared.limits.TheConstants.{MOST_SENDERS}
+use Rattle.bus_register.specs.declared.limits.TheConstants.{MOST_SENDERS, NUMBERS, TENURES}
 use Rattle.bus_batch.specs.declared.messages.Item.{Item}
 use Rattle.bus_batch.specs.Frames.{Frame, frame_words, order_of, has_end, has_gone}
 use Rattle.bus_deliverylog.specs.Orders.{of_sender}
 use Rattle.bus_tenure.specs.declared.pages.Page.{Page}
-use Rattle.bus_world.specs.declared.limits.TheConstants.{FIRST_NUMBERS, FIRST_RING_NUMBERS}
+use Rattle.bus_world.specs.declared.limits.TheConstants.{FIRST_NUMBERS}
 
 -- so many words of a table, from a place on
 abbrev pub words_read_from : (ℕ → ℕ) → ℕ → ℕ → List ℕ
@@ -54,11 +54,16 @@ AreCounted first (i ∷ items) = (i.number ≡ first) × AreCounted (first + 1) 
 abbrev pub next_number : (ℕ → ℕ) → ℕ → List Frame → ℕ
 next_number base s frames = base s + sent_count s frames
 
--- below this each sender's numbers begin in a sitting: with so many passed places, of which there
--- are none where no word of the log is used again
-abbrev pub first_numbers : ℕ → ℕ
-first_numbers zero = FIRST_NUMBERS
-first_numbers (suc passers) = FIRST_RING_NUMBERS
+-- Below this each sender's numbers begin where words of the log are used again: a sitting has 2^40
+-- tenures at most and a batch of so many messages in each, and one more may wait.
+abbrev pub ring_numbers : ℕ → ℕ
+ring_numbers batch = NUMBERS - batch * (TENURES + 1)
+
+-- and in any sitting, with so many passed places, of which there are none where no word is used
+-- again
+abbrev pub first_numbers : (passers batch : ℕ) → ℕ
+first_numbers zero batch = FIRST_NUMBERS
+first_numbers (suc passers) batch = ring_numbers batch
 
 -- no word of the log is used again, so the floor stays at its first place
 abbrev pub KeepsFloor : Page → Type 0

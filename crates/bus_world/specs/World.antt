@@ -2,7 +2,7 @@
 use Rattle.std.specs.Prelude.{◌≡◌, ◌≢◌, ℕ, ◌+◌, ◌%◌, ◌<◌, Bool, true, false, Option, Some, None}
 use Rattle.std.specs.Prelude.{List, length, replicate, slice_index, if◌then◌else◌, ◌==◌, ◌≤◌}
 use Rattle.bus_register.specs.declared.limits.TheConstants.{MOST_SENDERS, MOST_RECEIVERS}
-use Rattle.bus_register.specs.declared.limits.TheConstants.{MOST_LOG_WORDS, TENURES}
+use Rattle.bus_register.specs.declared.limits.TheConstants.{MOST_LOG_WORDS, TENURES, MOST_MESSAGES}
 use Rattle.bus_batch.specs.declared.messages.Mark.{Mark}
 use Rattle.bus_deliverylog.specs.declared.receiving.RecvTurn.{RecvTurn}
 use Rattle.bus_deliverylog.specs.declared.receiving.RecvTurn.TheVariants.{End as RecvEnd}
@@ -19,6 +19,7 @@ pub record IsLayout (x : Layout) : Type 0 where
   pub capacity : x.capacity ≤ MOST_LOG_WORDS
   -- none where no word of the log is used again
   pub passers : x.passers ≤ MOST_RECEIVERS
+  pub batch : (1 ≤ x.batch) × (x.batch ≤ MOST_MESSAGES)
 
 abbrev pub is_set : Option Bool → Bool
 is_set None = false

@@ -42,12 +42,12 @@ pub fn nobody_leaves_unasked()
 /// frame.
 pub fn ring_refuses<Q: Ratifier>()
     ensures { let X = election_of Q.Ratifier in
-        (senders rounds rows again capacity passers : ℕ)
-        → IsLayout (layout_with Q.protocol senders rounds rows capacity passers) → 2 ≤ again
+        (senders rounds rows again capacity passers batch : ℕ)
+        → IsLayout (layout_with Q.protocol senders rounds rows capacity passers batch) → 2 ≤ again
         → (y : CyclicProtocol (Elector Q)) (pins : Trails) (actions : ℕ → List Action)
         (heard : ℕ → List RecvTurn) (log : List ℕ)
-        → RingRefuses X (layout_with Q.protocol senders rounds rows capacity passers) again y pins
-        actions heard log }
+        → RingRefuses X (layout_with Q.protocol senders rounds rows capacity passers batch) again y
+        pins actions heard log }
 {
     election_is_lawful::<Q>();
 }

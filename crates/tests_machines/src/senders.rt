@@ -20,7 +20,7 @@ const WORDS: u64 = 32;
 fn made(me: u8) -> SenderCore<ThreeWord>
     requires { me < 2 }
 {
-    SenderCore::cyclic(2, SenderNo(me), 1, 2, 16, 0, 0)
+    SenderCore::cyclic(2, SenderNo(me), 1, 2, 16, 0, 0, 16)
 }
 
 /// The page of a bus that has had no tenure.

@@ -94,7 +94,7 @@ fn spells(rt: &impl Abort, batch: &Batch, words: &[u64]) {
 
 /// The words of the frame of these messages of sender 0 in tenure 0 begin with these.
 fn are_spelled(rt: &impl Abort, messages: &[&[u8]], words: &[u64]) {
-    let mut batch = Batch::new(SenderNo(0), 0);
+    let mut batch = Batch::new(SenderNo(0), 0, 16);
     for (number, bytes) in messages.iter().enumerate() {
         puts(rt, &mut batch, bytes, Ok(number as u64));
     }
@@ -131,7 +131,7 @@ fn words_of_frames(rt: HostRuntime) {
 
 #[test]
 fn finds_the_order_ended(rt: HostRuntime) {
-    let mut batch = Batch::new(SenderNo(3), 5);
+    let mut batch = Batch::new(SenderNo(3), 5, 16);
     same(&rt, &close(&mut batch), &Ok(()));
     stands(&rt, &batch, Phase::Marking(Mark::End), false);
     spells(&rt, &batch, &[0x40C0_0100_0000_0000, 0xC000_0000_0000_0000]);
@@ -149,7 +149,7 @@ fn waits(rt: &impl Abort, batch: &Batch, bytes: &[u8]) {
 
 #[test]
 fn sends_and_leaves(rt: HostRuntime) {
-    let mut batch = Batch::new(SenderNo(3), 5);
+    let mut batch = Batch::new(SenderNo(3), 5, 16);
     same(&rt, &batch.sender(), &SenderNo(3));
     puts(&rt, &mut batch, b"a", Ok(5));
     waits(&rt, &batch, b"a");

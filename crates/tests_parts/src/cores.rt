@@ -15,27 +15,27 @@ type Core = SenderCore<ThreeWord>;
 
 /// The first of two senders, where there is one row.
 fn first_of_two() -> Core {
-    SenderCore::new(2, SenderNo(0), 1, 1, 16, 0)
+    SenderCore::new(2, SenderNo(0), 1, 1, 16, 0, 16)
 }
 
 /// The second of two senders, where there are four rows.
 fn second_of_two() -> Core {
-    SenderCore::new(2, SenderNo(1), 1, 4, 16, 0)
+    SenderCore::new(2, SenderNo(1), 1, 4, 16, 0, 16)
 }
 
 /// The only sender, where there is one row.
 fn only_one() -> Core {
-    SenderCore::new(1, SenderNo(0), 1, 1, 16, 0)
+    SenderCore::new(1, SenderNo(0), 1, 1, 16, 0, 16)
 }
 
 /// The second of two senders, where two rows are used again.
 fn cyclic() -> Core {
-    SenderCore::cyclic(2, SenderNo(1), 1, 2, 16, 0, 0)
+    SenderCore::cyclic(2, SenderNo(1), 1, 2, 16, 0, 0, 16)
 }
 
 /// The same of a bus with two passed places.
 fn of_a_ring() -> Core {
-    SenderCore::cyclic(2, SenderNo(1), 1, 2, 16, 0, 2)
+    SenderCore::cyclic(2, SenderNo(1), 1, 2, 16, 0, 2, 16)
 }
 
 /// The page of a bus that has had no tenure.

@@ -183,7 +183,7 @@ fn short_lists_as_plainly_read(rt: HostRuntime) {
 
 /// A writer of the frame of a message of sender 1, of one byte, in tenure 9.
 fn writer(rt: &impl Abort) -> Writer {
-    let mut batch = Batch::new(SenderNo(1), 4);
+    let mut batch = Batch::new(SenderNo(1), 4, 16);
     assert!(rt; batch.put(b"a").is_ok());
     assert!(rt; !batch.is_empty());
     Writer::start(&batch, 9, 0, Reg(1), Reg(0))

@@ -2,7 +2,7 @@
 -- which the page gets its floor.
 use Rattle.std.specs.Prelude.{◌≡◌, ℕ, ◌+◌, ◌-◌, ◌^◌, ◌≤◌, Bool, Option, Some, None, List, [], ◌∷◌}
 use Rattle.std.specs.Prelude.{◌<◌, length, nat_lt, ◌==◌, if◌then◌else◌}
-use Rattle.bus_register.specs.declared.limits.TheConstants.{NUMBERS}
+use Rattle.bus_register.specs.declared.limits.TheConstants.{PLACES}
 use Rattle.bus_tenure.specs.Core.{Core}
 use Rattle.bus_tenure.specs.Paging.{PageKeeps}
 use Rattle.bus_tenure.specs.Situations.{core_floored, lesser}
@@ -58,7 +58,7 @@ core_over c p (place ∷ places) =
 
 -- With the last of as many as there are, and no earlier one, the page that a holder has gets this
 -- floor, and nothing else changes: it is no further than each of these places, than the words of
--- the page and than the last of the numbers that there are, and the furthest that is so. So it does
+-- the page and than the last of the places that there are, and the furthest that is so. So it does
 -- not fall where none of these places lies before the floor that the page had.
 pub record GivesFloor {E : Type 0} (c : Core E) (t : ℕ) (page : Page) (stored : ℕ)
     (published : Bool) (places : List ℕ) : Type 0 where
@@ -69,6 +69,6 @@ pub record GivesFloor {E : Type 0} (c : Core E) (t : ℕ) (page : Page) (stored 
       ≡ record c { phase = Holding t (record page { floor = floor }) stored published }
   pub behind : AreBehind floor places
   pub within : floor ≤ page.words
-  pub few : floor ≤ NUMBERS
-  pub furthest : (n : ℕ) → n ≤ page.words → n ≤ NUMBERS → AreBehind n places → n ≤ floor
+  pub few : floor ≤ PLACES
+  pub furthest : (n : ℕ) → n ≤ page.words → n ≤ PLACES → AreBehind n places → n ≤ floor
   pub rises : PageKeeps page → AreBehind page.floor places → page.floor ≤ floor

@@ -23,6 +23,16 @@ impl<Q: Ratifier + Drop> SenderCore<Q> {
         self.turns.pending()
     }
 
+    /// How many messages a batch has at most.
+    pub fn batch_limit(&self) -> u64
+        ensures limit { result ≡ self.now.core.layout.batch }
+        ensures queue { result ≡ self.now.core.queue.limit }
+        ensures some { 1 ≤ result }
+        ensures few { result ≤ MOST_MESSAGES }
+    {
+        self.turns.batch_limit()
+    }
+
     /// The messages that wait, in their order, spelled back from their words.
     pub fn waiting(&self) -> ArrayVec<Message, MOST_MESSAGES>
         ensures { result.items ≡ self.now.core.queue.messages }

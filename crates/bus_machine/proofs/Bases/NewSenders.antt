@@ -17,9 +17,8 @@ use Rattle.bus_register.proofs.PushLaws.{each_more}
 use Rattle.bus_register.specs.Protocol.{Protocol}
 use Rattle.bus_tenure.specs.Core.{Election, Layout}
 use Rattle.bus_tenure.specs.declared.pages.Page.{Page}
-use Rattle.bus_world.specs.Log.{first_numbers}
+use Rattle.bus_world.specs.Log.{first_numbers, ring_numbers}
 use Rattle.bus_world.specs.Starting.{AreNewReceivers, passed_behind}
-use Rattle.bus_world.specs.declared.limits.TheConstants.{FIRST_RING_NUMBERS}
 use Rattle.bus_register.specs.declared.limits.TheConstants.{MOST_SENDERS}
 use Rattle.bus_world.proofs.Beginning.{zeros}
 use Rattle.bus_world.specs.World.{no_bases, no_stops, AreBases, first_page}
@@ -29,6 +28,7 @@ use Rattle.bus_machine.proofs.Bases.AtNone.{passed_first}
 use Rattle.bus_machine.specs.Machine.{Machine, IsNew, New, log_place, no_machine_trails}
 use Rattle.bus_machine.specs.Machine.{passed_by, passers_place}
 use Rattle.bus_machine.specs.Playing.{layout_of, layout_passed, first_passed, machine_of, ShapeOf}
+use Rattle.bus_world.specs.Playing.{Within}
 use Rattle.bus_machine.specs.Playing.{IsServed, IsHeld, AreRows, MayGoOn, RefusedWith}
 use Rattle.bus_machine.specs.Turning.{AreNewSenders}
 
@@ -59,6 +59,7 @@ with_width shape width = record {
   width = width;
   capacity = shape.log_words;
   passers = 0;
+  batch = 16;
 }
 
 pub capacity_of : {S : Type 0} (P : Protocol S Bool Verdict) (shape : Shape) (reuse : Option ℕ)
@@ -71,22 +72,27 @@ pub passers_of : {S : Type 0} (P : Protocol S Bool Verdict) (shape : Shape) (reu
 passers_of P shape None passers = refl
 passers_of P shape (Some rows) passers = refl
 
+pub batch_of : {S : Type 0} (P : Protocol S Bool Verdict) (shape : Shape) (reuse : Option ℕ)
+    (passers : ℕ) → (layout_passed P shape reuse passers).batch ≡ 16
+batch_of P shape None passers = refl
+batch_of P shape (Some rows) passers = refl
+
 pub senders_are : {S : Type 0} (P : Protocol S Bool Verdict) (shape : Shape) (reuse : Option ℕ)
     (passers : ℕ) → (layout_passed P shape reuse passers).senders ≡ shape.senders
 senders_are P shape None passers = refl
 senders_are P shape (Some rows) passers = refl
 
 -- below which numbers begin where there are passed places
-numbers_some : (passers : ℕ) → 0 < passers → first_numbers passers ≡ FIRST_RING_NUMBERS
+numbers_some : (passers : ℕ) → 0 < passers → first_numbers passers 16 ≡ ring_numbers 16
 numbers_some zero some = absurd (omega arith)
 numbers_some (suc n) some = refl
 
-numbers_positive : (passers : ℕ) → 0 < first_numbers passers
+numbers_positive : (passers : ℕ) → 0 < first_numbers passers 16
 numbers_positive zero = omega arith
 numbers_positive (suc n) = omega arith
 
 -- the numbers of a first sitting are below it
-pub no_bases_low : (passers s : ℕ) → slice_index no_bases s < first_numbers passers
+pub no_bases_low : (passers s : ℕ) → slice_index no_bases s < first_numbers passers 16
 no_bases_low passers s =
     let none = zeros MOST_SENDERS s in let some = numbers_positive passers in omega arith
 
@@ -143,7 +149,7 @@ module _ {S : Type 0} (P : Protocol S Bool Verdict) (shape : Shape) (reuse : Opt
   has_place r low = elim each [ inl none ↦ inl none | inr all ↦ inr (omega arith) ]
 
   pub made_new : {E : Type 0} (bases : List ℕ) → AreBases bases
-      → ((s : ℕ) → slice_index bases s < first_numbers passers) → (home : Option Page)
+      → ((s : ℕ) → slice_index bases s < first_numbers passers 16) → (home : Option Page)
       → home ≡ Some (first_page bases) → (words : List ℕ)
       → words ≡ replicate (log + shape.log_words) 0 → (senders : List (Sender E))
       → AreNewSenders layout reuse bases shape.senders senders
@@ -176,7 +182,14 @@ module _ {S : Type 0} (P : Protocol S Bool Verdict) (shape : Shape) (reuse : Opt
             };
         apart = λ fresh. passers_of P shape reuse passers ∙ apart fresh;
         many = λ r v e. grind (arith, common_steps, has_place, within, passers_of);
-        ring_bases = λ some s. grind (arith, common_steps, slice_index, numbers_some, passers_of);
+        ring_bases = λ some s. grind (
+          arith,
+          common_steps,
+          slice_index,
+          numbers_some,
+          passers_of,
+          batch_of,
+        );
         stopped = nobody;
         owners = none;
       }
@@ -206,6 +219,9 @@ made_held X P shape reuse passers each served same m new layout_is reuse_is many
   capacity_some = grind (arith, common_steps, capacity_of);
   capacity_few = grind (arith, common_steps, capacity_of);
   passers_few = grind (arith, common_steps, passers_of);
+  batch = subst (λ n. Within 1 16 n)
+      (sym (ap (λ (x : Layout). x.batch) layout_is ∙ batch_of P shape reuse passers))
+      (omega arith, omega arith);
   senders =
       many ∙ sym (ap (λ (x : Layout). x.senders) layout_is ∙ senders_are P shape reuse passers);
   trails = no_machine_trails;

@@ -36,6 +36,7 @@ use Rattle.bus_machine.proofs.Tenures.Nobody.{some_nobody}
 use Rattle.bus_machine.specs.Forking.{KeepsForked}
 use Rattle.bus_machine.specs.Machine.{Machine, Trails, Reached, Joins, Forks, IsOnWord, fork_in}
 use Rattle.bus_machine.specs.Machine.{passed_by, trails_joined}
+use Rattle.bus_world.specs.Playing.{Within}
 use Rattle.bus_machine.specs.Playing.{AreRows, IsHeld}
 use Rattle.bus_machine.specs.Promise.{IsPromised, IsPromisedBy}
 
@@ -177,6 +178,7 @@ module _ {E : Type 0} (X : Election E) (m m' : Machine E) (i j : ℕ) where
         capacity_some = subst (λ x. 0 < x.capacity) (sym same.0) h.capacity_some;
         capacity_few = subst (λ x. x.capacity ≤ 65536) (sym same.0) h.capacity_few;
         passers_few = subst (λ x. x.passers ≤ MOST_RECEIVERS) (sym same.0) h.passers_few;
+        batch = subst (λ x. Within 1 16 x.batch) (sym same.0) h.batch;
         senders = cc;
         trails = trails_joined i j n.0 h.trails;
         reached = Joins m m' h.trails i j n.0 h.reached d n.1 n.2;

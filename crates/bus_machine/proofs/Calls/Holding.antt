@@ -56,6 +56,7 @@ use Rattle.bus_machine.proofs.Tenures.PagesTaken.{takers_told, counted}
 use Rattle.bus_machine.specs.Machine.{base_of, Machine, Trails, Reached, Then, Happens, found}
 use Rattle.bus_machine.specs.Machine.{has_stopped, trails_grown, log_place, log_of, owners_told}
 use Rattle.bus_machine.specs.Machine.{floor_of, passers_place, turn_answer, going}
+use Rattle.bus_world.specs.Playing.{Within}
 use Rattle.bus_machine.specs.Playing.{IsHeld, AreRows}
 use Rattle.bus_machine.specs.Promise.{HasRows}
 
@@ -84,6 +85,7 @@ module _ {E : Type 0} (X : Election E) where
         capacity_some = subst (λ x. 0 < x.capacity) (sym i.0) h.capacity_some;
         capacity_few = subst (λ x. x.capacity ≤ 65536) (sym i.0) h.capacity_few;
         passers_few = subst (λ x. x.passers ≤ MOST_RECEIVERS) (sym i.0) h.passers_few;
+        batch = subst (λ x. Within 1 16 x.batch) (sym i.0) h.batch;
         senders = many_after m m' e a d ∙ h.senders ∙ sym (ap (λ x. x.senders) i.0);
         trails = trails_grown X m e a h.trails;
         reached = Then m m' h.trails e a h.reached d;
@@ -172,9 +174,9 @@ module _ {E : Type 0} (X : Election E) (P : Protocol E (Unit {0}) ℕ) (m : Mach
 module _ {E : Type 0} (X : Election E) (P : Protocol E (Unit {0}) ℕ) where
   -- ---- its sizes are served
   layout_ok : (x : Layout) (o : Option ℕ) → x.senders ≤ MOST_SENDERS → x.capacity ≤ 65536
-      → x.passers ≤ MOST_RECEIVERS → AreRows x o → IsLayout x
-  layout_ok x None few small passed r = grind (arith, common_steps)
-  layout_ok x (Some rows) few small passed r = grind (arith, common_steps)
+      → x.passers ≤ MOST_RECEIVERS → Within 1 16 x.batch → AreRows x o → IsLayout x
+  layout_ok x None few small passed batch r = grind (arith, common_steps)
+  layout_ok x (Some rows) few small passed batch r = grind (arith, common_steps)
 
   has_rows : (x : Layout) (o : Option ℕ) → AreRows x o → HasRows o
   has_rows x None r = tt

@@ -429,8 +429,8 @@ module _ {E : Type 0} (X : Election E) (P : Protocol E (Unit {0}) ℕ) where
     ring : ShowsRing m.layout rows (slice_index m.words) kept.frames T.log kept.kept.floor
     ring = grind (arith, common_steps, kept, long, finds_some, index-read, slice_index)
 
-    few : length T.log < 2 ^ 48
-    few = subst (λ ws. length ws < 2 ^ 48) kept.kept.log_is
+    few : length T.log < 2 ^ 50
+    few = subst (λ ws. length ws < 2 ^ 50) kept.kept.log_is
         (words_low m.layout.senders kept.frames kept.kept.sending.log.lawful)
 
     -- its floor, and what stands from there on, where so many rows are used again
@@ -482,7 +482,7 @@ module _ {E : Type 0} (X : Election E) (P : Protocol E (Unit {0}) ℕ) where
           own : IsReceiver m.layout kept.frames (length (log_words kept.frames)) (placed m.layout v)
           own = (kept.kept.hears.each r v at).own
 
-          many : length (log_words kept.frames) < 2 ^ 48
+          many : length (log_words kept.frames) < 2 ^ 50
           many = words_low m.layout.senders kept.frames kept.kept.sending.log.lawful
 
           at_most : (n : ℕ) → n ≡ v.passed → n ≤ v.place

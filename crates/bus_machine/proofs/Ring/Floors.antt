@@ -17,7 +17,7 @@ use Rattle.bus_core.specs.declared.reuses.Passing.{Passing}
 use Rattle.bus_core.specs.declared.reuses.Reuse.{Reuse}
 use Rattle.bus_register.specs.Protocol.{Protocol}
 use Rattle.bus_register.specs.Private.TableLaws.{get_set_same, get_set_other}
-use Rattle.bus_register.specs.declared.limits.TheConstants.{NUMBERS}
+use Rattle.bus_register.specs.declared.limits.TheConstants.{PLACES}
 use Rattle.bus_tenure.specs.Core.{Core, Election, Layout, page_after}
 use Rattle.bus_tenure.specs.Situations.{IsClosed, IsIdle, IsSpent, LooksAtStage, Elects, TakesPage}
 use Rattle.bus_tenure.specs.Situations.{AwaitsPage, StoresWord, StoresLength, GivesBack, HasHanded}
@@ -189,10 +189,10 @@ module _ {E : Type 0} (X : Election E) (P : Protocol E (Unit {0}) ℕ) (m m' : M
       abbrev l : Passing
       l = passing_fed q got
 
-      few : page.floor ≤ NUMBERS
+      few : page.floor ≤ PLACES
       few = grind (arith, common_steps, length-logged, f, words_low, low)
 
-      above : page.floor ≤ lesser (lesser l.least page.words) NUMBERS
+      above : page.floor ≤ lesser (lesser l.least page.words) PLACES
       above = grind (arith, common_steps, lesser_above, loaded, low, few)
 
       reads_by : (b : Bool)
@@ -200,7 +200,7 @@ module _ {E : Type 0} (X : Election E) (P : Protocol E (Unit {0}) ℕ) (m m' : M
           × ((cond b (core_floored v.core l.least) v.core).phase
           ≡ phase.Holding t next stored published) × (page.floor ≤ next.floor)
       reads_by true = (
-        record page { floor = lesser (lesser l.least page.words) NUMBERS },
+        record page { floor = lesser (lesser l.least page.words) PLACES },
         ap (phase_floored l.least) held,
         above,
       )

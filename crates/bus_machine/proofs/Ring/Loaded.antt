@@ -21,7 +21,7 @@ use Rattle.bus_presence.specs.Reclaimers.{Reclaiming}
 use Rattle.bus_presence.specs.Reclamation.{Entry}
 use Rattle.bus_presence.specs.declared.pins.Pin.{Pin}
 use Rattle.bus_register.specs.Protocol.{Protocol}
-use Rattle.bus_register.specs.declared.limits.TheConstants.{NUMBERS}
+use Rattle.bus_register.specs.declared.limits.TheConstants.{PLACES}
 use Rattle.bus_tenure.specs.Core.{Election, Layout}
 use Rattle.bus_tenure.specs.Situations.{IsClosed, IsIdle, IsSpent, LooksAtStage, Elects, TakesPage}
 use Rattle.bus_tenure.specs.Situations.{AwaitsPage, StoresWord, StoresLength, GivesBack, HasHanded}
@@ -63,7 +63,7 @@ over_more p (first ∷ places) place = over_more (passing_fed p first) places pl
 
 -- the floor that a page gets by the least of all passed places
 abbrev floor_by : ℕ → ℕ → ℕ
-floor_by least words = lesser (lesser least words) NUMBERS
+floor_by least words = lesser (lesser least words) PLACES
 
 -- of so many passed places these are loaded; and by the last one the page has its floor
 pub record HasLoaded (passers : ℕ) (page : Page) (p : Passing) (places : List ℕ) : Type 0 where
@@ -397,7 +397,7 @@ all_are_found passers page p places w all = grind (arith, common_steps, gives_le
 
 -- the floor is the least of them and of the words that the page knows
 pub is_least : (passers : ℕ) (page : Page) (p : Passing) (places : List ℕ)
-    → HasLoaded passers page p places → 0 < passers → passers ≤ p.loaded → page.words ≤ NUMBERS
+    → HasLoaded passers page p places → 0 < passers → passers ≤ p.loaded → page.words ≤ PLACES
     → IsLeast page.floor page.words places
 is_least passers page p places w some all low =
     grind (arith, common_steps, behind_lower, gives_least, least_of_two, least_above)

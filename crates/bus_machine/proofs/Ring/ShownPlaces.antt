@@ -1,6 +1,7 @@
 -- What a holder has found in passed places stood there when it loaded them, each in the place of
 -- the next receiver.
-use Rattle.std.proofs.Common.{◌≡◌, ◌⊎◌, inl, inr, ℕ, zero, suc, ◌+◌, ◌==◌, Bool, true, false, cond}
+use Rattle.std.proofs.Common.{◌/◌, ◌≡◌, ◌⊎◌, inl, inr, ℕ, zero, suc, ◌+◌, ◌==◌, Bool, true, false}
+use Rattle.std.proofs.Common.{cond}
 use Rattle.std.proofs.Common.{Option, Some, None, List, [], ◌∷◌, ◌++◌, length, slice_get}
 use Rattle.std.proofs.Common.{slice_index, arith, refl, sym, ◌∙◌, subst, append_assoc}
 use Rattle.std.proofs.lemmas.Option.{same_Some}
@@ -9,7 +10,7 @@ use Rattle.bus_core.proofs.Situated.{situation_tells}
 use Rattle.bus_core.specs.Reusing.Passing.{passing_fed}
 use Rattle.bus_core.specs.Senders.{Sender, Situation, Does, Announces, Validates, Unpins}
 use Rattle.bus_core.specs.Senders.{Withdraws, Scans, Clears, ReadsPassed, situation}
-use Rattle.bus_core.specs.Table.{line}
+use Rattle.bus_core.specs.Table.{seen, line}
 use Rattle.bus_core.specs.declared.reuses.Passing.{Passing}
 use Rattle.bus_presence.specs.Reclamation.{Entry}
 use Rattle.bus_register.specs.Protocol.{Protocol}
@@ -22,7 +23,7 @@ use Rattle.bus_tenure.specs.declared.pages.Page.{Page}
 use Rattle.bus_tenure.specs.declared.phases.Phase.{Phase}
 use Rattle.bus_tenure.specs.declared.phases.Phase.TheVariants as phase
 use Rattle.bus_world.specs.Headline.{Action}
-use Rattle.bus_world.specs.Private.Sending.{Part}
+use Rattle.bus_world.specs.Private.Sending.{Fits, Part}
 use Rattle.bus_world.specs.Trails.{put_actions, mark_actions}
 use Rattle.bus_world.specs.Turning.{after_step}
 use Rattle.bus_world.specs.World.{Turn}
@@ -212,10 +213,19 @@ module _ {E : Type 0} (X : Election E) (P : Protocol E (Unit {0}) ℕ) (m m' : M
   by_turn (Does IsClosed) i = keeps v [] (same_held v.core.phase refl) refl
   by_turn (Does IsIdle) i = keeps v [] (same_held v.core.phase refl) refl
   by_turn (Does IsSpent) i = keeps v [] (same_held v.core.phase refl) refl
-  by_turn (Does LooksAtStage) i = grind (arith, away, looks, phase_tells)
-  by_turn (Does (Elects t e)) i = grind (arith, away, elected)
-  by_turn (Does (TakesPage t)) i = grind (arith, common_steps, takes, found_on)
-  by_turn (Does (AwaitsPage t)) i = grind (arith, common_steps, f, phase_tells, part)
+  by_turn (Does LooksAtStage) i =
+      away (seen X v.core v.reuse (got (Does LooksAtStage))) (D ++ did (Does LooksAtStage))
+      (looks X v v.reuse (got (Does LooksAtStage)) (phase_tells X v LooksAtStage i))
+  by_turn (Does (Elects t e)) i =
+      let z = Does (Elects t e) in
+      away ((line X v z).fed (got z) word) (D ++ did z)
+      (elected X v t (X.fed e (got z) word) (X.owner (X.fed e (got z) word)))
+  by_turn (Does (TakesPage t)) i =
+      let z = Does (TakesPage t) in
+      takes (after z) (D ++ did z) (found_on [] D (did z))
+  by_turn (Does (AwaitsPage t)) i =
+      absurd (subst (Fits (base_of m) f.V f.frames v.core) (phase_tells X v (AwaitsPage t) i)
+      part.fits)
   by_turn (Does (StoresWord t page j)) i =
       let z = Does (StoresWord t page j) in
       let own = phase_tells X v (StoresWord t page j) i in
@@ -225,12 +235,19 @@ module _ {E : Type 0} (X : Election E) (P : Protocol E (Unit {0}) ℕ) (m m' : M
       let z = Does (StoresLength t page j) in
       let own = phase_tells X v (StoresLength t page j) i in
       keeps ((line X v z).fed (got z) word) (did z) (goes_on t page j j own.0 true own.1) refl
-  by_turn (Does (GivesBack t page reason)) i = grind (arith, common_steps, away)
-  by_turn (Does (HasHanded t reason)) i = grind (arith, common_steps, away)
+  by_turn (Does (GivesBack t page reason)) i =
+      let z = Does (GivesBack t page reason) in
+      away ((line X v z).fed (got z) word) (D ++ did z) (λ u other stored published held. cc)
+  by_turn (Does (HasHanded t reason)) i =
+      let z = Does (HasHanded t reason) in
+      away ((line X v z).fed (got z) word) (D ++ did z) (λ u other stored published held. cc)
   by_turn (Announces t) i =
       let z = Announces t in
       keeps ((line X v z).fed (got z) word) (did z) (same_held v.core.phase refl) refl
-  by_turn (Validates t) i = grind (arith, common_steps, away, validated, enters)
+  by_turn (Validates t) i =
+      let z = Validates t in
+      away ((line X v z).fed (got z) word) (D ++ did z)
+      (validated X v t (got z / 2 == t) (enters X P m T sits reached s v at t i).0)
   by_turn (Unpins t) i =
       let z = Unpins t in
       keeps ((line X v z).fed (got z) word) (did z) (same_held v.core.phase refl) refl

@@ -93,16 +93,17 @@ answers_apart = by_code spelled read read_back
 
 abbrev layout_code : TableLayout → List (List ℕ)
 layout_code x =
-    (x.senders ∷ x.words ∷ x.log ∷ x.capacity ∷ x.passed ∷ x.passers ∷ []) ∷ []
+    (x.senders ∷ x.words ∷ x.log ∷ x.capacity ∷ x.passed ∷ x.passers ∷ x.batch ∷ []) ∷ []
 
 abbrev layout_numbers : List ℕ → TableLayout
-layout_numbers (a ∷ (b ∷ (c ∷ (d ∷ (p ∷ (q ∷ more)))))) = record {
+layout_numbers (a ∷ (b ∷ (c ∷ (d ∷ (p ∷ (q ∷ (m ∷ more))))))) = record {
   senders = a;
   words = b;
   log = c;
   capacity = d;
   passed = p;
   passers = q;
+  batch = m;
 }
 layout_numbers ws = no_table_layout
 

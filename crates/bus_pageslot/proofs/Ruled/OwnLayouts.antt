@@ -1,26 +1,36 @@
 -- A sender has the layout of the table that its seat is of.
-use Rattle.std.proofs.Common.{◌≡◌, ℕ, Bool, Option, List, arith, sym, ◌∙◌, ap, inl, inr}
+use Rattle.std.proofs.Common.{◌≡◌, ℕ, Bool, Option, List, arith, refl, sym, ◌∙◌, ap, inl, inr}
 use Rattle.std.proofs.lemmas.Bool.{cases_lt, true≢false}
 use Rattle.std.specs.Prelude.{IsTrue}
 use mathlib.Core.Option.{some}
 use Rattle.atomic_table.specs.Table.{State}
 use Rattle.atomic_table.specs.declared.shared.Seat.{Seat}
+use Rattle.bus_batch.specs.Batches.{Pending}
 use Rattle.bus_core.specs.Senders.{Sender}
 use Rattle.bus_tenure.specs.declared.pages.Page.{Page}
 use Rattle.bus_world.specs.Headline.{Action}
 use Rattle.bus_automaton.specs.Lawful.{ProcessLaws, AutomatonLaws}
-use Rattle.bus_automaton.specs.Processes.{Process, Automaton}
+use Rattle.bus_automaton.specs.Processes.{Process, Automaton, TableLayout}
 use Rattle.bus_automaton.specs.SenderTrails.{SenderTrail}
 use Rattle.bus_pageslot.specs.Histories.{Shown}
 use Rattle.bus_pageslot.specs.Looks.{HasLooked, batch_len}
 use Rattle.bus_pageslot.specs.Room.{Fits}
 use Rattle.bus_pageslot.specs.Rule.{Sat, TableInvariant, sender_trail_in, notes_in}
 use Rattle.bus_pageslot.specs.Seats.{Shows}
-use Rattle.bus_pageslot.specs.Steps.{Accepts}
+use Rattle.bus_pageslot.specs.Steps.{Accepts, Nothing, Message, Marks}
 use Rattle.bus_pageslot.specs.declared.rule.View.{View}
 use Rattle.bus_pageslot.specs.declared.rule.View.TheVariants as view
 use Rattle.bus_pageslot.proofs.SeatSteps.Accepting.{stays}
 use Rattle.bus_pageslot.proofs.Sends.Looking.{never_fits}
+
+-- and its batch the same limit, whatever it accepts
+limit_stays : {C : Type 0} (P : Process C) → ProcessLaws P → (c d : C) (actions : List Action)
+    → Accepts P c d actions → (P.queue d).limit ≡ (P.queue c).limit
+limit_stays P K c _ _ Nothing = refl
+limit_stays P K c _ _ (Message d actions bytes more can small) =
+    ap (λ (q : Pending). q.limit) (K.message_waits d bytes) ∙ limit_stays P K c d actions more
+limit_stays P K c _ _ (Marks d actions mark more can) =
+    ap (λ (q : Pending). q.limit) (K.mark_waits d mark) ∙ limit_stays P K c d actions more
 
 module _ {E : Type 0} (P : Process (Sender E)) (A : Automaton (Sender E)) (K : ProcessLaws P)
     (L : AutomatonLaws P A) (s : State (Option Page) (View (Sender E)))
@@ -32,6 +42,20 @@ module _ {E : Type 0} (P : Process (Sender E)) (A : Automaton (Sender E)) (K : P
   shown_layout (inr (notes, y, e, at)) =
       (L.senders r.state (P.me v) v r.reached
       (r.views seat (view.Telling v trail notes y e) at).0.core).table_layout
+
+  shown_limit : Shown s seat v trail → (P.queue v).limit ≡ A.table_layout.batch
+  shown_limit (inl (notes, at)) =
+      let is = L.senders r.state (P.me v) v r.reached
+      (r.views seat (view.Sender v trail notes) at).core in
+      is.counted.limit ∙ ap (λ (x : TableLayout). x.batch) is.table_layout
+  shown_limit (inr (notes, y, e, at)) =
+      let is = L.senders r.state (P.me v) v r.reached
+      (r.views seat (view.Telling v trail notes y e) at).0.core in
+      is.counted.limit ∙ ap (λ (x : TableLayout). x.batch) is.table_layout
+
+  pub limit_by_its_table : (d : Sender E) (actions : List Action) → Shown s seat v trail
+      → Accepts P v d actions → (P.queue d).limit ≡ A.table_layout.batch
+  limit_by_its_table d actions shown more = limit_stays P K v d actions more ∙ shown_limit shown
 
   pub by_its_table : (d : Sender E) (actions : List Action) → Shown s seat v trail
       → Accepts P v d actions → P.table_layout d ≡ A.table_layout

@@ -121,6 +121,10 @@ module _ {S : Type 0} (kind_of : S → Option Kind) (op : S → ℕ → Option O
   abbrev P : Process (Sender (Elector S))
   P = process_with kind_of op fed Q
 
+  pub limit_is : (P.queue v).limit ≡ v.core.queue.limit
+  unfolding process_with
+  limit_is = queue_same (λ q. q.limit) (λ q. refl) v.core.queue v.reuse
+
   pub next_is : next_of (P.queue v) ≡ next_of v.core.queue
   unfolding process_with
   next_is = queue_same next_of (λ q. refl) v.core.queue v.reuse

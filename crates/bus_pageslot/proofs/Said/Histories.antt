@@ -54,17 +54,17 @@ module _ {S : Type 0} (kind_of : S → Option Kind) (op : S → ℕ → Option O
 
 -- what is so of all sizes is so of those of a shape
 sized_at : {S : Type 0} (Q : Protocol S Bool Verdict) (G : Layout → Type 0)
-    → ((senders rounds rows capacity passers : ℕ)
-    → G (layout_with Q senders rounds rows capacity passers))
+    → ((senders rounds rows capacity passers batch : ℕ)
+    → G (layout_with Q senders rounds rows capacity passers batch))
     → (shape : Shape) (reuse : Option ℕ) (passers : ℕ) → G (layout_passed Q shape reuse passers)
 sized_at Q G h shape None passers =
-    h shape.senders shape.rounds shape.rows shape.log_words passers
+    h shape.senders shape.rounds shape.rows shape.log_words passers 16
 sized_at Q G h shape (Some rows) passers =
-    h shape.senders shape.rounds TENURES shape.log_words passers
+    h shape.senders shape.rounds TENURES shape.log_words passers 16
 
 pub sized : {S : Type 0} (Q : Protocol S Bool Verdict) (G : Layout → Type 0)
-    → ((senders rounds rows capacity passers : ℕ)
-    → G (layout_with Q senders rounds rows capacity passers))
+    → ((senders rounds rows capacity passers batch : ℕ)
+    → G (layout_with Q senders rounds rows capacity passers batch))
     → (plan : Plan) → G (layout_by Q plan)
 sized Q G h plan = sized_at Q G h plan.shape plan.reuse (plan_passers plan)
 

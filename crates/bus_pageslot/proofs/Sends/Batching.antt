@@ -19,7 +19,8 @@ use Rattle.bus_automaton.specs.Lawful.{ProcessLaws}
 use Rattle.bus_pageslot.specs.Seats.{SenderSeat, actions_of}
 use Rattle.bus_pageslot.specs.Turns.{Tellings, Turned, TurnsOn, Here, More, Sends}
 use Rattle.bus_tenure.specs.Classes.{is_last, is_refusal}
-use Rattle.bus_pageslot.specs.Sendings.{waiting_of, SendsOff, Keeps, KeepsFor, FillsBatches}
+use Rattle.bus_pageslot.specs.Sendings.{limit_of, waiting_of, SendsOff, Keeps, KeepsFor}
+use Rattle.bus_pageslot.specs.Sendings.{FillsBatches}
 use Rattle.bus_pageslot.specs.Sendings.{SentBefore, Put, SentFull, HasSent, Refuses, StopsAt}
 use Rattle.bus_pageslot.specs.Sendings.{Stops, can_come, WaitsOf, HasSentPart}
 use Rattle.bus_pageslot.proofs.Sends.Sending.{sending_puts, fills_puts}
@@ -65,7 +66,7 @@ module _ {C : Type 0} (P : Process C) (T : Tellings C) (K : ProcessLaws P) where
 
   -- ---- batches
   pub fills_few : (first : SenderSeat C) (messages : List (List ℕ)) (new : SenderSeat C)
-      → FillsBatches P T first messages new → length (waiting_of P new) ≤ 16
+      → FillsBatches P T first messages new → length (waiting_of P new) ≤ limit_of P new
   fills_few first _ _ (SentBefore new off) = let size = ap length off.none in omega arith
   fills_few first _ _ (Put messages old bytes new before takes) =
       grind (arith, common_steps, length, length-append)
@@ -103,7 +104,7 @@ module _ {C : Type 0} (P : Process C) (T : Tellings C) (K : ProcessLaws P) where
 
   -- a full batch that is sent off goes on
   pub room_made : (old new : SenderSeat C) (result : Result (Unit {0}) SendFault)
-      → 16 ≤ length (waiting_of P old) → OnOk result (SendsOff P T old new)
+      → limit_of P old ≤ length (waiting_of P old) → OnOk result (SendsOff P T old new)
       → OnOk result ((first : SenderSeat C) (messages : List (List ℕ))
       → FillsBatches P T first messages old → FillsBatches P T first messages new)
   room_made old new (Ok u) full off = λ first messages before. SentFull messages old new before
@@ -114,7 +115,7 @@ module _ {C : Type 0} (P : Process C) (T : Tellings C) (K : ProcessLaws P) where
   -- the batch that is to be sent off is full
   pub stops_full : (first : SenderSeat C) (messages : List (List ℕ)) (bytes : List ℕ)
       (why : SendFault) (old new : SenderSeat C) → FillsBatches P T first messages old
-      → 16 ≤ length (waiting_of P old) → KeepsFor P T old why new
+      → limit_of P old ≤ length (waiting_of P old) → KeepsFor P T old why new
       → StopsAt P T first messages (Some bytes) why new
   stops_full first messages bytes (fault.Put why) old new h full keeps = absurd keeps
   stops_full first messages bytes (fault.Turn answer) old new h full keeps = (

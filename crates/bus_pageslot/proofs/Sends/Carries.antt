@@ -11,7 +11,8 @@ use Rattle.bus_world.specs.Headline.{HasPut}
 use Rattle.bus_automaton.specs.Processes.{Process}
 use Rattle.bus_automaton.specs.Lawful.{ProcessLaws}
 use Rattle.bus_pageslot.specs.Seats.{SenderSeat, actions_of}
-use Rattle.bus_pageslot.specs.Sendings.{waiting_of, TakesAll, TakesNone, TakesMore, Carries}
+use Rattle.bus_pageslot.specs.Sendings.{limit_of, waiting_of, TakesAll, TakesNone, TakesMore}
+use Rattle.bus_pageslot.specs.Sendings.{Carries}
 use Rattle.bus_pageslot.specs.Sendings.{CarryRefused}
 use Rattle.bus_pageslot.specs.Steps.{puts_from}
 use Rattle.bus_pageslot.proofs.SeatSteps.Accepting.{puts_from-snoc}
@@ -49,6 +50,14 @@ module _ {C : Type 0} (P : Process C) (K : ProcessLaws P) where
       ∙ ap (λ (q : Pending). q.first) (K.message_waits old.core bytes)
       ∙ takes_first first messages old before
 
+  takes_limit : (first : SenderSeat C) (messages : List (List ℕ)) (new : SenderSeat C)
+      → TakesAll P first messages new → limit_of P new ≡ limit_of P first
+  takes_limit first _ _ TakesNone = refl
+  takes_limit first _ _ (TakesMore messages old bytes new before takes) =
+      ap (λ (s : C). (P.queue s).limit) takes.core
+      ∙ ap (λ (q : Pending). q.limit) (K.message_waits old.core bytes)
+      ∙ takes_limit first messages old before
+
   pub takes_seat : (first : SenderSeat C) (messages : List (List ℕ)) (new : SenderSeat C)
       → TakesAll P first messages new
       → new.seat ≡ first.seat
@@ -82,7 +91,7 @@ module _ {C : Type 0} (P : Process C) (K : ProcessLaws P) where
   -- who has taken a message takes another, where that fits and is not too long
   goes_on : (old : SenderSeat C) (messages : List (List ℕ)) (new : SenderSeat C) (next : List ℕ)
       → TakesAll P old messages new
-      → length (waiting_of P new) < 16 → length next ≤ 56 → (why : PutFault)
+      → length (waiting_of P new) < limit_of P new → length next ≤ 56 → (why : PutFault)
       → IsPutFault (P.queue new.core) (length next) why
       → (messages ≡ []) × (new ≡ old)
   goes_on old _ _ next TakesNone room short why cause = (refl, refl)
@@ -94,8 +103,8 @@ module _ {E : Type 0} (P : Process (Sender E)) (K : ProcessLaws P) where
   pub refused : (from old : SenderSeat (Sender E)) (messages rest : List (List ℕ)) (next : List ℕ)
       (new : SenderSeat (Sender E))
       → TakesAll P old messages new → messages ++ next ∷ rest ≡ waiting_of P from
-      → length (waiting_of P old) + length (waiting_of P from) ≤ 16 → length next ≤ 56
+      → length (waiting_of P old) + length (waiting_of P from) ≤ limit_of P old → length next ≤ 56
       → (why : PutFault) → IsPutFault (P.queue new.core) (length next) why
       → (new ≡ old) × CarryRefused P from old why
   refused from old messages rest next new h all room short why cause =
-      grind (arith, common_steps, length, takes_waits, length-append, goes_on)
+      grind (arith, common_steps, length, takes_waits, takes_limit, length-append, goes_on)

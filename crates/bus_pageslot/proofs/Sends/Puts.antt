@@ -40,8 +40,9 @@ module _ {C : Type 0} (P : Process C) (L : ProcessLaws P) (d : C) (s : Seat (Opt
 
   -- it shows its seat still, with a batch of as few messages
   still : (d' : C) (actions : List Action) → Accepts P h.shown d' actions → Keeps P d d'
-      → (P.queue d').first ≡ (P.queue d).first → length (P.queue d').messages ≤ 16 → Shows P d' s
-  still d' actions more keeps first few = grind (arith, common_steps)
+      → (P.queue d').first ≡ (P.queue d).first → (P.queue d').limit ≡ (P.queue d).limit
+      → length (P.queue d').messages ≤ (P.queue d).limit → Shows P d' s
+  still d' actions more keeps first limit few = grind (arith, common_steps)
 
   module _ (bytes : List ℕ) (small : All (λ byte. byte < 256) bytes)
       (can : CanPut (P.queue d) (length bytes)) where

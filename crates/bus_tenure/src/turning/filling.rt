@@ -1,6 +1,6 @@
 //! The batch of a sender: what it takes, and what waits in it.
 
-ghost use Rattle.std.specs.Prelude.{◌≡◌, ◌<◌, [], ◌∷◌, ◌++◌, length, IfOk, IfErr, OnOk, OnErr};
+ghost use Rattle.std.specs.Prelude.{◌≡◌, ◌<◌, ◌≤◌, [], ◌∷◌, ◌++◌, length, IfOk, IfErr, OnOk, OnErr};
 ghost use Rattle.bus_batch.specs.Batches.{next_of, CanPut, IsPutFault, CanClose, IsCloseFault};
 ghost use Rattle.bus_batch.specs.declared.batches.Phase.TheVariants as queue_phase;
 ghost use Rattle.bus_batch.specs.declared.messages.Mark.TheVariants as mark;
@@ -65,6 +65,16 @@ impl<Q: Ratifier + Drop> Turns<Q> {
         ensures { result ≡ length self.now.queue.messages }
     {
         self.batch.len()
+    }
+
+    /// How many messages a batch has at most.
+    pub fn batch_limit(&self) -> u64
+        ensures limit { result ≡ self.now.layout.batch }
+        ensures queue { result ≡ self.now.queue.limit }
+        ensures some { 1 ≤ result }
+        ensures few { result ≤ MOST_MESSAGES }
+    {
+        self.batch.limit()
     }
 
     /// The messages that wait, in their order, spelled back from their words.

@@ -8,7 +8,7 @@ ghost use Rattle.bus_tenure.specs.Situations.{core_floored, lesser as spec_lesse
 use crate::phases::Phase;
 use crate::turning::Turns;
 use bus_adoptcommit::Ratifier;
-use bus_register::limits::NUMBERS;
+use bus_register::limits::PLACES;
 
 /// The lesser one of two numbers.
 fn lesser(one: u64, other: u64) -> u64
@@ -50,7 +50,7 @@ impl<Q: Ratifier + Drop> Turns<Q> {
     {
         if let Phase::Holding { page, .. } = &mut self.phase {
             let words = page.get().words;
-            page.set_floor(lesser(lesser(least, words), NUMBERS));
+            page.set_floor(lesser(lesser(least, words), PLACES));
         }
     }
 }

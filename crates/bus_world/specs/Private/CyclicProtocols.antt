@@ -36,12 +36,11 @@ use Rattle.bus_world.specs.Turning.{core_moved, after_step}
 use Rattle.bus_world.specs.Private.Machines.{home_after, owners_after, new_core, can_put, can_close}
 use Rattle.bus_world.specs.Private.Machines.{put_in, mark_in}
 use Rattle.bus_world.specs.Headline.{Action, HasPut, HasMarked}
-use Rattle.bus_world.specs.Log.{words_of_frame}
+use Rattle.bus_world.specs.Log.{ring_numbers, words_of_frame}
 use Rattle.bus_world.specs.Trails.{step_action, no_actions, no_answers, actions_with, answers_with}
 use Rattle.bus_world.specs.Trails.{answers_joined}
 use Rattle.bus_world.specs.Starting.{IsNewReceiver}
 use Rattle.bus_world.specs.World.{AreBases, first_page, RecvDoes}
-use Rattle.bus_world.specs.declared.limits.TheConstants.{FIRST_RING_NUMBERS}
 use Rattle.bus_world.specs.Floors.{passed_of, passed_place}
 
 pub record CyclicProtocol (E : Type 0) : Type 0 where
@@ -198,7 +197,7 @@ pub record IsNewProtocol {E : Type 0} (x : Layout) (rows : ℕ) (y : CyclicProto
   -- enough for all tenures
   pub many : (r : ℕ) (v : Receiving) → y.receivers r ≡ Some v
       → (x.passers ≡ 0) ⊎ (r < x.passers)
-  pub ring_bases : 0 < x.passers → (s : ℕ) → slice_index y.bases s < FIRST_RING_NUMBERS
+  pub ring_bases : 0 < x.passers → (s : ℕ) → slice_index y.bases s < ring_numbers x.batch
   pub owners : y.owners ≡ []
 
 -- the turn that sender p takes next, which holds this

@@ -84,7 +84,7 @@ abbrev pub can_put : Pending → ℕ → Bool
 can_put q len =
     is_open q.phase
     && ((if q.busy then false else true)
-    && (nat_le len MOST_BYTES && nat_lt (length q.messages) MOST_MESSAGES))
+    && (nat_le len MOST_BYTES && nat_lt (length q.messages) q.limit))
 
 -- a close or a leave is accepted
 abbrev pub can_close : Pending → Bool
@@ -155,6 +155,7 @@ new_core x first p = record {
   me = p;
   queue = record {
     sender = record { 0 = p };
+    limit = x.batch;
     first = first;
     messages = [];
     phase = Open;

@@ -1,11 +1,12 @@
 -- What words, the page, senders and owners keep: they fit one list of frames.
 use Rattle.std.specs.Prelude.{◌≡◌, ℕ, ◌+◌, ◌*◌, ◌<◌, ◌≤◌, true, false, Option, Some, None, List}
-use Rattle.std.specs.Prelude.{[], ◌∷◌, ◌++◌, take, is_some, slice_get}
+use Rattle.std.specs.Prelude.{[], ◌∷◌, ◌++◌, length, take, is_some, slice_get, All}
 use Rattle.bus_register.specs.Tables.{of_some}
 use Rattle.bus_register.specs.Protocol.{Protocol}
 use Rattle.bus_batch.specs.Batches.{Pending, IsKept, HasSomething, frame_of}
 use Rattle.bus_batch.specs.declared.batches.Phase.TheVariants.{Closed}
 use Rattle.bus_batch.specs.Frames.{Frame, frame_words, order_of, has_gone, AreFrames, log_words}
+use Rattle.bus_batch.specs.Frames.{items_of}
 use Rattle.bus_tenure.specs.Core.{Core, Layout, log_at, frame_len}
 use Rattle.bus_tenure.specs.declared.pages.Page.{Page}
 use Rattle.bus_tenure.specs.declared.phases.Phase.{Phase}
@@ -21,14 +22,16 @@ abbrev pub AreEarlier : ℕ → List Frame → Type 0
 AreEarlier tenure [] = Unit {0}
 AreEarlier tenure (f ∷ frames) = (f.tenure < tenure) × AreEarlier tenure frames
 
--- the words below the length are frames, which fit the log where no word of it is used again; and
--- each sender's numbers count from its base, which leaves room for a whole sitting
+-- the words below the length are frames, none of more messages than a batch may have, which fit
+-- the log where no word of it is used again; and each sender's numbers count from its base, which
+-- leaves room for a whole sitting
 pub record Logged (base : ℕ → ℕ) (x : Layout) (words : ℕ → ℕ) (len : ℕ) (frames : List Frame) :
     Type 0 where
   pub lawful : AreFrames x.senders frames
+  pub few : All (λ f. length (items_of f) ≤ x.batch) frames
   pub words_are : words_read_from words (log_at x) len ≡ log_words frames
   pub fits : x.passers ≡ 0 → len ≤ x.capacity
-  pub low : (s : ℕ) → base s < first_numbers x.passers
+  pub low : (s : ℕ) → base s < first_numbers x.passers x.batch
   pub counted : (s : ℕ) → AreCounted (base s) (of_sender s (order_of frames))
 
 -- what a sender stands in, as far as tenures go
@@ -103,6 +106,7 @@ pub record Part {E : Type 0} (base : ℕ → ℕ) (x : Layout) (words : ℕ → 
   pub me : c.me ≡ p
   pub below : p < x.senders
   pub sender : c.queue.sender.0 ≡ p
+  pub limit : c.queue.limit ≡ x.batch
   pub queue : IsKept c.queue
   pub fits : Fits base words frames c c.phase
 

@@ -9,4 +9,4 @@ returns g c =
     let X = election_with g.Q.Machine.kind_of g.Q.Machine.op g.Q.Machine.fed P in
     let law = c.election_is_lawful.ensures.lawful.laws 0 in
     process_laws X (elections P 0) law (serves g.Q.Machine.kind_of g.Q.Machine.op g.Q.Machine.fed P
-    g.met.Q.Machine.names_each_step g.met.Q.Ratifier.own_kinds 0 0 0 0 0 law).named
+    g.met.Q.Machine.names_each_step g.met.Q.Ratifier.own_kinds 0 0 0 0 0 0 law).named

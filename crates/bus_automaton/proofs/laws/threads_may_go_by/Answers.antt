@@ -1,5 +1,4 @@
-use Rattle.std.proofs.Common.{◌<◌, Some, None, slice_index, refl, subst, sym}
-use Rattle.bus_world.specs.Log.{first_numbers}
+use Rattle.std.proofs.Common.{Some, None, slice_index, refl}
 use Rattle.bus_machine.proofs.Bases.Served.{served}
 use Rattle.bus_tenure.specs.Elections.{elections, election_with}
 use Rattle.bus_world.proofs.Serving.{serves}
@@ -8,7 +7,8 @@ use Rattle.bus_automaton.proofs.Beginning.{opens}
 use Rattle.bus_automaton.proofs.HandedTells.{handed_tells}
 use Rattle.bus_automaton.proofs.RestingTells.{rest_tells}
 use Rattle.bus_automaton.proofs.ServedPlans.{one_cause_after, is_layout, few_passers}
-use Rattle.bus_automaton.proofs.ServedPlans.{none_apart, as_planned, has_rows}
+use Rattle.bus_automaton.proofs.ServedPlans.{none_apart, as_planned, batch_planned, planned_low}
+use Rattle.bus_automaton.proofs.ServedPlans.{has_rows}
 use Rattle.bus_automaton.proofs.Owed.{automaton_laws}
 use Rattle.bus_automaton.proofs.Turns.{process_laws}
 use Rattle.bus_automaton.proofs.laws.threads_may_go_by.Goals as goal
@@ -21,7 +21,7 @@ returns-clause-process g c =
     let law = c.election_is_lawful.ensures.lawful.laws 0 in
     process_laws X (elections P 0) law
     (serves g.Q.Machine.kind_of g.Q.Machine.op g.Q.Machine.fed P g.met.Q.Machine.names_each_step
-    g.met.Q.Ratifier.own_kinds 0 0 0 0 0 law).named
+    g.met.Q.Ratifier.own_kinds 0 0 0 0 0 0 law).named
 
 pub returns-clause-tells : goal.returns-clause-tells
 unfolding process_with
@@ -38,7 +38,7 @@ returns-clause-rests g c v word laid none going =
     let law = c.election_is_lawful.ensures.lawful.laws 0 in
     rest_tells X (elections P 0) law
     (serves g.Q.Machine.kind_of g.Q.Machine.op g.Q.Machine.fed P g.met.Q.Machine.names_each_step
-    g.met.Q.Ratifier.own_kinds 0 0 0 0 0 law).owner_is
+    g.met.Q.Ratifier.own_kinds 0 0 0 0 0 0 law).owner_is
     v word laid none going
 
 pub returns-clause-one_cause : goal.returns-clause-one_cause
@@ -82,8 +82,13 @@ returns-clause-opens g c plan h =
     (few_passers plan.reuse plan.ring plan.shape.receivers h.0.receivers.1))
     (none_apart P plan.shape plan.reuse plan.ring plan.shape.receivers)
     (has_rows plan.shape plan.reuse h.0 h.1) h.2.0
-    (λ s. subst (λ n. slice_index plan.bases s < first_numbers n)
-    (sym (as_planned P plan.shape plan.reuse (plan_passers plan))) (h.2.1 s))
+    (λ s. planned_low P plan.shape plan.reuse (plan_passers plan) (slice_index plan.bases s)
+    (h.2.1 s))
+
+pub returns-clause-batch : goal.returns-clause-batch
+unfolding automaton_with
+returns-clause-batch g c plan =
+    batch_planned g.Q.Ratifier.protocol plan.shape plan.reuse (plan_passers plan)
 
 pub returns-clause-bases : goal.returns-clause-bases
 unfolding automaton_with

@@ -15,7 +15,7 @@ loop-place-preserved c = record {
       c.in-Ok.found
       c.loop-place.invariant.reads c.in-Ok.ensures.senders
       (take_more c.args.words.now c.loop-place.place 0 c.loop-place-test.true)
-      (c.in-Ok.ensures.read (take c.loop-place.place c.args.words.now)
+      (c.in-Ok.ensures.read _ (take c.loop-place.place c.args.words.now)
       c.loop-place.invariant.reads.pieces c.loop-place.invariant.reads.had)
       c.in_ok-note-in-Ok.ensures.entries c.in_ok-note-in-Ok.ensures.ended
       c.in_ok-note-in-Ok.ensures.owners;
@@ -27,7 +27,7 @@ returns-in-Err-clause-begins c log =
     absurd
     ((subst (λ z. IsBadWord z (take c.loop-place.place c.args.words.now)
     (get_or c.args.words.now c.loop-place.place 0)) c.loop-place.invariant.reads.senders_are
-    ((c.in-Err.ensures.bad (take c.loop-place.place c.args.words.now)
+    ((c.in-Err.ensures.bad _ (take c.loop-place.place c.args.words.now)
     c.loop-place.invariant.reads.pieces c.loop-place.invariant.reads.had).0 refl))
     (front_begins c.args.senders c.loop-place.place c.args.words.now c.loop-place-test.true log))
 
@@ -43,7 +43,7 @@ returns-in-Err-clause-bad c place e =
       bad =
           (subst (λ z. IsBadWord z (take c.loop-place.place c.args.words.now)
           (get_or c.args.words.now c.loop-place.place 0)) c.loop-place.invariant.reads.senders_are
-          ((c.in-Err.ensures.bad (take c.loop-place.place c.args.words.now)
+          ((c.in-Err.ensures.bad _ (take c.loop-place.place c.args.words.now)
           c.loop-place.invariant.reads.pieces c.loop-place.invariant.reads.had).0 refl));
     })
 
@@ -59,7 +59,7 @@ returns-in_err-note-in-Ok-clause-no_memory c _ = record {
       (begins c.loop-place.reader.senders (take c.loop-place.place c.args.words.now
       ++ get_or c.args.words.now c.loop-place.place 0 ∷ [])
       (c.loop-place.invariant.reads.pieces ++ c.in-Ok.found ∷ []) c.feed.new.self
-      (c.in-Ok.ensures.read (take c.loop-place.place c.args.words.now)
+      (c.in-Ok.ensures.read _ (take c.loop-place.place c.args.words.now)
       c.loop-place.invariant.reads.pieces c.loop-place.invariant.reads.had)));
 }
 

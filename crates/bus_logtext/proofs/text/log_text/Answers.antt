@@ -17,7 +17,7 @@ loop-place-preserved c =
     (string_bytes c.push_piece.new.text) c.in-Ok.found
     c.loop-place.invariant c.in-Ok.ensures.senders
     (take_more c.args.words.now c.loop-place.place 0 c.loop-place-test.true)
-    (c.in-Ok.ensures.read (take c.loop-place.place c.args.words.now) c.loop-place.invariant.pieces
+    (c.in-Ok.ensures.read _ (take c.loop-place.place c.args.words.now) c.loop-place.invariant.pieces
     c.loop-place.invariant.had) more
 
 pub returns-in-Err-clause-bad : goal.returns-in-Err-clause-bad
@@ -32,7 +32,7 @@ returns-in-Err-clause-bad c place e =
       bad =
           (subst (λ z. IsBadWord z (take c.loop-place.place c.args.words.now)
           (get_or c.args.words.now c.loop-place.place 0)) c.loop-place.invariant.senders_are
-          ((c.in-Err.ensures.bad (take c.loop-place.place c.args.words.now)
+          ((c.in-Err.ensures.bad _ (take c.loop-place.place c.args.words.now)
           c.loop-place.invariant.pieces c.loop-place.invariant.had).0 refl));
     })
 
@@ -46,7 +46,7 @@ returns-then-inside-clause-torn c _ =
       good = begins c.loop-place.reader.senders (take c.loop-place.place c.args.words.now) t.pieces
           c.loop-place.reader t.had;
       unfinished =
-          c.if-inside.ensures.torn (take c.loop-place.place c.args.words.now) t.pieces t.had refl;
+          c.if-inside.ensures.torn _ (take c.loop-place.place c.args.words.now) t.pieces t.had refl;
     }))
 
 pub returns-clause-told : goal.returns-clause-told
@@ -58,4 +58,4 @@ returns-clause-told c =
     (λ z. Tells c.args.senders z c.loop-place.reader (string_bytes c.loop-place.text)) all
     c.loop-place.invariant in
     tells_all c.args.senders c.args.words.now c.loop-place.reader (string_bytes c.loop-place.text) t
-    (c.inside.ensures.whole c.args.words.now t.pieces t.had c.if-inside.false)
+    (c.inside.ensures.whole _ c.args.words.now t.pieces t.had c.if-inside.false)

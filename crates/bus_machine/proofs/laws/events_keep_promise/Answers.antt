@@ -10,13 +10,14 @@ use Rattle.bus_machine.proofs.Onward.Following.{follows, tells}
 use Rattle.bus_machine.proofs.laws.events_keep_promise.Goals as goal
 
 pub returns : goal.returns
-returns g c senders rounds rows capacity passers ok old trails same has reached event given new
-    happens =
+returns g c senders rounds rows capacity passers batch ok old trails same has reached event given
+    new happens =
     let P = g.Q.Ratifier.protocol in
     let X = election_with g.Q.Machine.kind_of g.Q.Machine.op g.Q.Machine.fed P in
     let R = elections P rounds in
     let s = serves g.Q.Machine.kind_of g.Q.Machine.op g.Q.Machine.fed P
     g.met.Q.Machine.names_each_step g.met.Q.Ratifier.own_kinds senders rounds rows capacity passers
+    batch
     (c.election_is_lawful.ensures.lawful.laws rounds) in
     let t : Sits X R old = record {
       serves = subst (Serves X R) (sym same) s;

@@ -8,12 +8,13 @@ use Rattle.bus_machine.proofs.Promised.{promised}
 use Rattle.bus_machine.proofs.laws.machine_keeps_promise.Goals as goal
 
 pub returns : goal.returns
-returns g c senders rounds rows capacity passers ok machine trails same has reached =
+returns g c senders rounds rows capacity passers batch ok machine trails same has reached =
     let P = g.Q.Ratifier.protocol in
     let X = election_with g.Q.Machine.kind_of g.Q.Machine.op g.Q.Machine.fed P in
     let R = elections P rounds in
     let s = serves g.Q.Machine.kind_of g.Q.Machine.op g.Q.Machine.fed P
     g.met.Q.Machine.names_each_step g.met.Q.Ratifier.own_kinds senders rounds rows capacity passers
+    batch
     (c.election_is_lawful.ensures.lawful.laws rounds) in
     let t : Sits X R machine = record {
       serves = subst (Serves X R) (sym same) s;

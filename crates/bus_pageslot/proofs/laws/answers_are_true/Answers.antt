@@ -16,6 +16,6 @@ returns g c plan s id m d word many o r at due =
     (c.threads_may_go_by.ensures.automaton plan)) s
     r id m at d word many o due
     (sized Q (OfEvents X (λ old e a new. Tells X old e a))
-    (λ a b d e n ok old T same rows reached event given new happens.
-    (c.events_keep_promise.ensures a b d e n ok old T same rows reached event given new
+    (λ a b d e n most ok old T same rows reached event given new happens.
+    (c.events_keep_promise.ensures a b d e n most ok old T same rows reached event given new
     happens).1) plan)

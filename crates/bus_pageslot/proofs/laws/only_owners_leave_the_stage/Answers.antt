@@ -23,6 +23,6 @@ returns g c plan s id m d word many t o r at due is_open leaves =
     (rule_is g.Q.Machine.kind_of g.Q.Machine.op g.Q.Machine.fed Q plan s r) id m at d word many o
     due
     (sized Q (OfEvents X (OpensOnly X))
-    (λ a b d e n ok old T same rows reached event given new happens.
-    (c.events_keep_promise.ensures a b d e n ok old T same rows reached event given new
+    (λ a b d e n most ok old T same rows reached event given new happens.
+    (c.events_keep_promise.ensures a b d e n most ok old T same rows reached event given new
     happens).2) plan) t is_open leaves

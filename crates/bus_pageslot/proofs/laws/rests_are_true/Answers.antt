@@ -16,8 +16,8 @@ returns-clause-rests g c plan s seat v d sender_trail actions r shown more =
     (c.threads_may_go_by.ensures.automaton plan)) s
     r seat v d sender_trail actions shown more
     (sized Q (OfEvents X (λ old e a new. Tells X old e a))
-    (λ a b d e n ok old T same rows reached event given new happens.
-    (c.events_keep_promise.ensures a b d e n ok old T same rows reached event given new
+    (λ a b d e n most ok old T same rows reached event given new happens.
+    (c.events_keep_promise.ensures a b d e n most ok old T same rows reached event given new
     happens).1) plan)
 
 pub returns-clause-refused : goal.returns-clause-refused

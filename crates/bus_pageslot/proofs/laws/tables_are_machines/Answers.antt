@@ -21,15 +21,15 @@ returns g c plan s r =
     (sized Q (λ x.
     IsLayout x → (m : Machine S) (T : Trails) → m.layout ≡ x → HasRows m.reuse → Reached X m T
     → IsPromised X m T × LossesAreSeen m T.actions)
-    (λ senders rounds rows capacity passers.
-    c.machine_keeps_promise.ensures senders rounds rows capacity passers) plan h.served
+    (λ senders rounds rows capacity passers batch.
+    c.machine_keeps_promise.ensures senders rounds rows capacity passers batch) plan h.served
     k.state.machine k.state.trails h.layout
     (subst HasRows (sym h.rows_are) h.has_rows) h.reached)
     (sized Q (λ x.
     IsLayout x → (m : Machine S) (T : Trails) → m.layout ≡ x → HasRows m.reuse → Reached X m T
     → AreBounded X (election_bound Q.steps x.senders x.rounds) m T × PinsAreBounded T)
-    (λ senders rounds rows capacity passers.
-    c.steps_are_bounded.ensures senders rounds rows capacity passers) plan h.served
+    (λ senders rounds rows capacity passers batch.
+    c.steps_are_bounded.ensures senders rounds rows capacity passers batch) plan h.served
     k.state.machine k.state.trails h.layout
     (subst HasRows (sym h.rows_are) h.has_rows) h.reached)
     ((laws_are g.Q.Machine.kind_of g.Q.Machine.op g.Q.Machine.fed Q plan

@@ -4,11 +4,13 @@ use Rattle.bus_world.proofs.Serving.{serves}
 use Rattle.bus_world.proofs.laws.ring_refuses.Goals as goal
 
 pub returns : goal.returns
-returns g c senders rounds rows again capacity passers ok two y pins actions heard log =
+returns g c senders rounds rows again capacity passers batch ok two y pins actions heard log =
     let P = g.Q.Ratifier.protocol in
     let X = election_with g.Q.Machine.kind_of g.Q.Machine.op g.Q.Machine.fed P in
     let s = serves g.Q.Machine.kind_of g.Q.Machine.op g.Q.Machine.fed P
     g.met.Q.Machine.names_each_step g.met.Q.Ratifier.own_kinds senders rounds rows capacity passers
+    batch
     (c.election_is_lawful.ensures.lawful.laws rounds) in
-    refuses X (elections P rounds) (layout_with P senders rounds rows capacity passers) s ok again
+    refuses X (elections P rounds) (layout_with P senders rounds rows capacity passers batch) s ok
+    again
     two y pins actions heard log

@@ -11,5 +11,11 @@ returns-clause-least c =
     let e = c.body_len.ensures.len in omega arith
 
 pub returns-clause-lawful : goal.returns-clause-lawful
-returns-clause-lawful c senders tenure owner below = is_frame c.args.self.now senders tenure
-    c.requires (subst IsKept c.self.view_is c.self.invariant.0) owner below
+returns-clause-lawful c senders tenure owner below =
+    let kept = subst IsKept c.self.view_is c.self.invariant.0 in
+    is_frame 16 c.args.self.now senders tenure kept.limit_few c.requires kept owner below
+
+pub returns-clause-limited : goal.returns-clause-limited
+returns-clause-limited c senders tenure owner below =
+    is_frame c.args.self.now.limit c.args.self.now senders tenure (omega arith) c.requires
+    (subst IsKept c.self.view_is c.self.invariant.0) owner below

@@ -73,6 +73,7 @@ returns-clause-taken c =
     subst (λ (s : Pending).
     record {
       sender = old.sender;
+      limit = old.limit;
       first = old.first;
       messages = spelled count items;
       phase = old.phase;
@@ -81,6 +82,7 @@ returns-clause-taken c =
     ≡ record s { messages = s.messages ++ bytes ∷ [] })
     c.self.view_is (ap (λ z. record {
       sender = old.sender;
+      limit = old.limit;
       first = old.first;
       messages = z;
       phase = old.phase;

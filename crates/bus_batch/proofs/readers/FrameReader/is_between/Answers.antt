@@ -5,11 +5,11 @@ use Rattle.bus_batch.proofs.Feeding.{between_is_log, between_goes_on, outside_be
 use Rattle.bus_batch.proofs.readers.FrameReader.is_between.Goals as goal
 
 pub returns-in-Between-clause-log : goal.returns-in-Between-clause-log
-returns-in-Between-clause-log c words pieces had _ =
+returns-in-Between-clause-log c most words pieces had _ =
     let at = sym (ap (λ (r : Reading). is_between r.place) c.self.view_is)
     ∙ ap is_between c.in-Between.is in (
-      between_is_log c.args.self.now.senders words pieces c.args.self.now had at,
-      between_goes_on c.args.self.now.senders words pieces c.args.self.now had at,
+      between_is_log most c.args.self.now.senders words pieces c.args.self.now had at,
+      between_goes_on most c.args.self.now.senders words pieces c.args.self.now had at,
     )
 
 pub returns-in_default : goal.returns-in_default
@@ -18,7 +18,7 @@ returns-in_default c =
     ∙ ap (λ (r : Reading). is_between r.place) c.self.view_is in
     record {
       between = not;
-      log = λ words pieces had t. absurd (false≢true t);
-      within = λ words pieces had _. outside_between c.args.self.now.senders words pieces
+      log = λ most words pieces had t. absurd (false≢true t);
+      within = λ most words pieces had _. outside_between most c.args.self.now.senders words pieces
           c.args.self.now had (sym not);
     }

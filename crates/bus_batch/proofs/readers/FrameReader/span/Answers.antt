@@ -1,4 +1,4 @@
-use Rattle.std.proofs.Common.{[], arith, refl, sym, subst, ap, ◌∙◌, None}
+use Rattle.std.proofs.Common.{◌≤◌, [], arith, refl, sym, subst, ap, ◌∙◌, None}
 use Rattle.bus_batch.specs.declared.readers.Span.{Span}
 use Rattle.bus_batch.specs.Frames.{data_len}
 use Rattle.bus_batch.specs.Reading.{Reading, IsSound}
@@ -11,7 +11,8 @@ use Rattle.bus_batch.proofs.readers.FrameReader.span.Goals as goal
 
 pub returns-clause-span : goal.returns-clause-span
 returns-clause-span c =
-    let sound = subst (λ p. IsSound p c.self.inside.bytes) c.in-Body.is c.self.invariant in
+    let sound = subst (λ p. IsSound c.self.inside.most p c.self.inside.bytes) c.in-Body.is
+    c.self.invariant.0 in
     let not_empty = c.if-length-eq0.false in
     record {
       at = ap (λ (r : Reading). r.place) (sym c.self.view_is) ∙ c.in-Body.is;
@@ -19,7 +20,10 @@ returns-clause-span c =
       words = refl;
       some = omega (arith, not_empty);
       most = c.in-Some.ensures.some.len;
-      room = (let l = sound.1 in let f = sound.2 in omega arith, sound.3);
+      room = (
+        let l = sound.1 in let f = sound.2 in omega arith,
+        subst (λ n. c.in-Body.room ≤ n) (ap (λ (r : Reading). r.most) c.self.view_is) sound.3,
+      );
       enough = c.can_hold.ensures.enough c.if-not-can_hold.false;
       fillable = c.can_hold.ensures.fillable c.if-not-can_hold.false;
     }
@@ -27,7 +31,8 @@ returns-clause-span c =
 pub returns-clause-begins : goal.returns-clause-begins
 returns-clause-begins c =
     let span = returns-clause-span c in
-    let sound = subst (λ p. IsSound p c.self.inside.bytes) c.in-Body.is c.self.invariant in
+    let sound = subst (λ p. IsSound c.self.inside.most p c.self.inside.bytes) c.in-Body.is
+    c.self.invariant.0 in
     let enough = span.enough in
     let fillable = span.fillable in
     let room = span.room in
@@ -43,9 +48,11 @@ returns-clause-begins c =
     } in
     leads_on c.args.self.now (midway c.args.self.now taken []) c.args.told None
     (subst (λ r. Takes r c.args.told None (midway r taken []))
-    (ap (λ z. reading c.self.inside.senders c.self.inside.least c.self.inside.left z
+    (ap (λ z. reading c.self.inside.most c.self.inside.senders c.self.inside.least
+    c.self.inside.left z
     c.self.inside.bytes) (sym c.in-Body.is) ∙ c.self.view_is)
-    (takes_begun c.self.inside.senders c.self.inside.least c.args.told c.self.inside.left
+    (takes_begun c.self.inside.most c.self.inside.senders c.self.inside.least c.args.told
+    c.self.inside.left
     c.in-Body.owner c.in-Body.left c.in-Body.room c.self.inside.bytes c.in-Some.length
     c.in-Some.ensures.some sound.1 enough (omega arith) sound.3 fillable some))
     (λ _. (some, most, omega arith, omega arith, omega arith, refl))

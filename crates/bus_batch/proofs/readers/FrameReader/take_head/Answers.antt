@@ -13,10 +13,13 @@ returns-then-self-head-clause-steps c =
     c.if-self-head.true in
     let left : slice_get c.self.inside.left c.in-Some.head.owner.0 ≡ Some true =
     slice_get-get_or c.self.inside.left c.in-Some.head.owner.0 false below ∙ ap Some read in
-    refused_at c.self.inside.senders c.self.inside.least c.self.inside.left place.Between
+    refused_at c.self.inside.most c.self.inside.senders c.self.inside.least c.self.inside.left
+    place.Between
     c.self.inside.place c.self.inside.bytes c.args.word c.args.self.now c.self.view_is c.requires
-    (refuses_leaver c.self.inside.senders c.self.inside.least c.args.word c.self.inside.left
-    c.self.inside.bytes c.in-Some.head c.in-Some.ensures.some left)
+    (refuses_leaver c.self.inside.most c.self.inside.senders c.self.inside.least c.args.word
+    c.self.inside.left
+    c.self.inside.bytes (c.self.invariant.1, c.self.invariant.2) c.in-Some.head
+    c.in-Some.ensures.some left)
 
 pub returns-else-self-head-clause-steps : goal.returns-else-self-head-clause-steps
 returns-else-self-head-clause-steps c =
@@ -25,16 +28,23 @@ returns-else-self-head-clause-steps c =
     c.if-self-head.false in
     let stays : slice_get c.self.inside.left c.in-Some.head.owner.0 ≡ Some false =
     slice_get-get_or c.self.inside.left c.in-Some.head.owner.0 false below ∙ ap Some read in
-    at_place c.self.inside.senders c.self.inside.least c.self.inside.left place.Between
+    at_place c.self.inside.most c.self.inside.senders c.self.inside.least c.self.inside.left
+    place.Between
     c.self.inside.place c.self.inside.bytes c.args.word _ c.args.self.now _ c.self.view_is
     c.requires
-    (good _ _ c.args.word _ (takes_head c.self.inside.senders c.self.inside.least c.args.word
-    c.self.inside.left c.self.inside.bytes c.self.inside.bytes c.in-Some.head c.in-Some.ensures.some
+    (good _ _ c.args.word _ (takes_head c.self.inside.most c.self.inside.senders
+    c.self.inside.least c.args.word
+    c.self.inside.left c.self.inside.bytes c.self.inside.bytes (
+      c.self.invariant.1,
+      c.self.invariant.2,
+    ) c.in-Some.head c.in-Some.ensures.some
     stays))
 
 pub returns-in-None-clause-steps : goal.returns-in-None-clause-steps
 returns-in-None-clause-steps c =
-    refused_at c.self.inside.senders c.self.inside.least c.self.inside.left place.Between
+    refused_at c.self.inside.most c.self.inside.senders c.self.inside.least c.self.inside.left
+    place.Between
     c.self.inside.place c.self.inside.bytes c.args.word c.args.self.now c.self.view_is c.requires
-    (refuses_head c.self.inside.senders c.self.inside.least c.args.word c.self.inside.left
-    c.self.inside.bytes c.in-None.ensures.none)
+    (refuses_head c.self.inside.most c.self.inside.senders c.self.inside.least c.args.word
+    c.self.inside.left
+    c.self.inside.bytes c.self.invariant.1 c.in-None.ensures.none)

@@ -7,22 +7,26 @@ use Rattle.bus_batch.proofs.readers.FrameReader.take_part.Goals as goal
 
 pub returns-clause-steps : goal.returns-clause-steps
 returns-clause-steps c =
-    let sound = sound_at c.self.inside.senders c.self.inside.least c.self.inside.left
+    let sound = sound_at c.self.inside.most c.self.inside.senders c.self.inside.least
+    c.self.inside.left
     (place.Data c.args.owner c.args.left c.args.room c.args.told.number c.args.told.len)
     c.self.inside.place c.self.inside.bytes c.args.self.now c.self.view_is c.requires.place
-    c.self.invariant in
-    at_place c.self.inside.senders c.self.inside.least c.self.inside.left
+    c.self.invariant.0 in
+    at_place c.self.inside.most c.self.inside.senders c.self.inside.least c.self.inside.left
     (place.Data c.args.owner c.args.left c.args.room c.args.told.number c.args.told.len)
     c.self.inside.place c.self.inside.bytes c.args.word _ c.args.self.now _ c.self.view_is
     c.requires.place
-    (subst (λ bytes. Steps (reading c.self.inside.senders c.self.inside.least c.self.inside.left
+    (subst (λ bytes. Steps (reading c.self.inside.most c.self.inside.senders c.self.inside.least
+    c.self.inside.left
     (place.Data c.args.owner c.args.left c.args.room c.args.told.number c.args.told.len)
-    c.self.inside.bytes) c.args.word (Ok None) (reading c.self.inside.senders c.self.inside.least
+    c.self.inside.bytes) c.args.word (Ok None) (reading c.self.inside.most c.self.inside.senders
+    c.self.inside.least
     c.self.inside.left
     (place.Data c.args.owner (c.args.left - 1) c.args.room c.args.told.number c.args.told.len)
     bytes))
     (sym c.append_word.ensures)
-    (takes_eight c.self.inside.senders c.self.inside.least c.args.word c.self.inside.left
+    (takes_eight c.self.inside.most c.self.inside.senders c.self.inside.least c.args.word
+    c.self.inside.left
     c.args.owner c.args.left c.args.room c.args.told.number c.args.told.len c.self.inside.bytes
     c.ranges.word.fits sound.2 sound.3 sound.4
     (subst (λ (r : Reading). length r.bytes + 8 < c.args.told.len) (sym c.self.view_is)

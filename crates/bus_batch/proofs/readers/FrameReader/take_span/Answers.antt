@@ -62,7 +62,7 @@ returns-clause-good c _ taken has =
     (sym (missing c.args.self.now c.args.span span taken c.args.last has.all))
     (c.is_padded.ensures.0 c.if-not-is_padded.false))
     c.place_after-self-inside.ensures
-    (after_sound c.args.span.owner (c.args.span.left - (1 + c.args.span.words))
+    (after_sound c.args.self.now.most c.args.span.owner (c.args.span.left - (1 + c.args.span.words))
     (c.args.span.room - 1) c.place_after-self-inside.result c.self.inside.bytes
     c.place_after-self-inside.ensures
     (ap (λ (r : Reading). r.bytes) c.self.view_is ∙ span.bytes) fillable (omega arith))))

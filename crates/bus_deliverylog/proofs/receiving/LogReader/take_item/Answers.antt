@@ -10,16 +10,16 @@ returns-then-take_item-clause-word c _ words pieces had =
     let going = ap (λ (r : LogReading). r.ended) c.self.view_is ∙ c.requires.going in
     good_word c.args.self.now _ c.self.view_is c.take_item.new.self c.args.got
     (Some (piece.Item c.take_item.new.item))
-    c.self.inside.ended (λ w p h. c.take_item.ensures.read w p h c.if-take_item.true)
+    c.self.inside.ended (λ w p h. c.take_item.ensures.read _ w p h c.if-take_item.true)
     c.take_item.ensures.senders going
-    _ words pieces had (λ w p h. c.take_item.ensures.gives w p h c.if-take_item.true) refl
+    _ words pieces had (λ w p h. c.take_item.ensures.gives _ w p h c.if-take_item.true) refl
 
 pub invariant_of-self : goal.invariant_of-self
 invariant_of-self c =
     let going = ap (λ (r : LogReading). r.ended) c.self.view_is ∙ c.requires.going in
     seen_more c.args.self.now _ c.self.view_is c.take_item.new.self c.args.got
     (Some (piece.Item c.take_item.new.item))
-    c.self.inside.ended (λ w p h. c.take_item.ensures.read w p h c.if-take_item.true)
+    c.self.inside.ended (λ w p h. c.take_item.ensures.read _ w p h c.if-take_item.true)
     c.take_item.ensures.senders going
     c.requires.unread c.requires.going c.self.invariant
 

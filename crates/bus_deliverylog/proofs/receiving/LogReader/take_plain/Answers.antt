@@ -8,15 +8,15 @@ pub returns-then-take_plain-clause-word : goal.returns-then-take_plain-clause-wo
 returns-then-take_plain-clause-word c _ words pieces had =
     let going = ap (λ (r : LogReading). r.ended) c.self.view_is ∙ c.requires.going in
     good_word c.args.self.now _ c.self.view_is c.take_plain.new.self c.args.got None
-    c.self.inside.ended (λ w p h. c.take_plain.ensures.read w p h c.if-take_plain.true)
+    c.self.inside.ended (λ w p h. c.take_plain.ensures.read _ w p h c.if-take_plain.true)
     c.take_plain.ensures.senders going
-    _ words pieces had (λ w p h. c.take_plain.ensures.gives w p h c.if-take_plain.true) refl
+    _ words pieces had (λ w p h. c.take_plain.ensures.gives _ w p h c.if-take_plain.true) refl
 
 pub invariant_of-self : goal.invariant_of-self
 invariant_of-self c =
     let going = ap (λ (r : LogReading). r.ended) c.self.view_is ∙ c.requires.going in
     seen_more c.args.self.now _ c.self.view_is c.take_plain.new.self c.args.got None
-    c.self.inside.ended (λ w p h. c.take_plain.ensures.read w p h c.if-take_plain.true)
+    c.self.inside.ended (λ w p h. c.take_plain.ensures.read _ w p h c.if-take_plain.true)
     c.take_plain.ensures.senders going
     c.requires.unread c.requires.going c.self.invariant
 

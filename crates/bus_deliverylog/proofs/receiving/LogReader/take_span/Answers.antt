@@ -64,7 +64,7 @@ returns-else-take_span-clause-bad c _ taken has =
     subst (λ (r : LogReading). TakesNext (midway_in r c.args.span taken) c.args.last turn.Going
     (midway_in r c.args.span taken)) c.self.view_is
     (λ words pieces had. inl (
-      c.take_span.ensures.bad c.if-take_span.false taken has words pieces had.read,
+      c.take_span.ensures.bad c.if-take_span.false taken has _ words pieces had.read,
       refl,
       refl,
     ))

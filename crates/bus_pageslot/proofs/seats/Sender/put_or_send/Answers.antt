@@ -4,7 +4,7 @@ use Rattle.bus_world.specs.Headline.{HasPut}
 use Rattle.bus_automaton.specs.Buses.{process_with}
 use Rattle.bus_pageslot.specs.Turns.{tells_with}
 use Rattle.bus_pageslot.specs.Seats.{actions_of}
-use Rattle.bus_pageslot.specs.Sendings.{FillsBatches, Put, waiting_of}
+use Rattle.bus_pageslot.specs.Sendings.{FillsBatches, Put, limit_of, waiting_of}
 use Rattle.bus_pageslot.proofs.Sends.Sending.{same_sender}
 use Rattle.bus_pageslot.proofs.Sends.Batching.{stops_full}
 use Rattle.bus_pageslot.proofs.seats.Sender.put_or_send.Goals as goal
@@ -43,6 +43,7 @@ returns-in-Err-put-clause-stops g c =
             let short = c.as_slice.ensures.short in omega arith);
         room =
             (let size = ap (λ s. length (waiting_of P s)) same in
+            let limit = ap (limit_of P) same in
             let room = c.in_default.ensures.room in omega arith);
         cause = subst (λ d. IsPutFault (P.queue d) (length c.args.message.now) c.in-Err-put.fault)
             (sym c.in-Err-put.ensures.refused)

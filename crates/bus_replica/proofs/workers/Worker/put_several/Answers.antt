@@ -7,8 +7,8 @@ use Rattle.bus_replica.specs.Replicas.{PutsNow}
 use Rattle.bus_replica.proofs.SendingLaws.{now_on, stay}
 use Rattle.bus_replica.proofs.workers.Worker.put_several.Goals as goal
 
-pub returns-then-pending-room-clause-refused : goal.returns-then-pending-room-clause-refused
-returns-then-pending-room-clause-refused g c = stay process tells c.args.self.now.sender
+pub returns-then-count-most-clause-refused : goal.returns-then-count-most-clause-refused
+returns-then-count-most-clause-refused g c = stay process tells c.args.self.now.sender
 
 pub loop-message-preserved : goal.loop-message-preserved
 loop-message-preserved g c =
@@ -24,6 +24,7 @@ loop-message-preserved g c =
     let waits = inv.open_with.2 in
     let more = c.put_next.ensures.open in
     let more_wait = more.2 in
+    let limit = inv.open_with.3 in
     record {
       bus = c.put_next.ensures.bus ∙ inv.bus;
       me = (c.put_next.ensures.me.0 ∙ inv.me.0, c.put_next.ensures.me.1 ∙ inv.me.1);
@@ -35,7 +36,7 @@ loop-message-preserved g c =
             c.put_next.new.self.sender inv.put.0 c.put_next.result (first ∷ take k rest) bytes
             inv.put.1 c.put_next.ensures.put),
       );
-      open_with = (more.0, more.1, omega (arith, waits, more_wait));
+      open_with = (more.0, more.1, omega (arith, waits, more_wait), more.3 ∙ limit);
     }
 
 pub returns-clause-put : goal.returns-clause-put

@@ -1,9 +1,11 @@
-use Rattle.std.proofs.Common.{◌≡◌, false, is_some, IsSome, sym, ◌∙◌, ap, subst}
+use Rattle.std.proofs.Common.{◌≡◌, ◌+◌, false, is_some, IsSome, sym, ◌∙◌, ap, subst}
 use Rattle.std.proofs.lemmas.Bool.{ne_eqb, eq-eqb}
 use Rattle.bus_binconsensus.specs.Objects.{decide_protocol}
 use Rattle.bus_coinconc.specs.ConciliatorProtocol.{conciliator_protocol}
 use Rattle.bus_ownerbits.specs.Election.{owner_of}
+use Rattle.bus_batch.specs.Batches.{Pending}
 use Rattle.bus_tenure.specs.Elections.{election_with}
+use Rattle.bus_tenure.specs.declared.phases.Phase.TheVariants as phase
 use Rattle.bus_tenure.proofs.Lawful.{keeps_after}
 use Rattle.bus_tenure.proofs.ElectionTurns.{sender_some, no_owner, own_owner, its_op, lost_state}
 use Rattle.bus_tenure.proofs.ElectionTurns.{lost_answer, keeps_electing}
@@ -60,7 +62,22 @@ returns-clause-state g c =
     ≡ false =
     (not_yet X c.args.self.now c.in-Electing.tenure c.args.started c.in-Electing.election
     (sym (ap (λ z. z.phase) c.self.view_is) ∙ c.in-Electing.is) c.requires.elects).0 in
-    lost_state X _ _ c.self.view_is c.in-Electing.tenure c.in-Electing.election c.in-Electing.is
+    ap (λ n. record {
+      layout = record {
+        senders = c.self.inside.sizes.senders;
+        rounds = c.self.inside.sizes.rounds;
+        rows = c.self.inside.sizes.rows;
+        width = c.self.inside.sizes.width;
+        capacity = c.self.inside.sizes.capacity;
+        passers = c.self.inside.sizes.passers;
+        batch = n;
+      };
+      me = c.self.inside.me.0;
+      queue = c.back.new.self;
+      least = c.in-Electing.tenure + 1;
+      phase = phase.Resting;
+    }) (ap (λ (q : Pending). q.limit) c.back.ensures)
+    ∙ lost_state X _ _ c.self.view_is c.in-Electing.tenure c.in-Electing.election c.in-Electing.is
     unowned c.args.got c.args.word c.feed.new.self c.feed.ensures c.in-Some.owner.0
     (sender_some _ c.in-Some.owner (sym c.owner.ensures ∙ c.in-Some.is))
     (ne_eqb _ _ c.if-owner-self.false) c.back.new.self c.back.ensures
