@@ -272,6 +272,7 @@ static void run(const char *folder, uint64_t seed) {
     fflush(stdout);
     begin_journal(&page, seed, &dice);
     sizes.log_words = words[below(&dice, 4)];
+    if (sizes.log_words < 513) sizes.batch = (sizes.log_words - 1) / 8;
     if (kioskbasil_open_after(&sizes, &page, senders, WORKERS, receivers, WORKERS + 1))
         fail("the bus", "not opened");
     ear = receivers[WORKERS];

@@ -46,7 +46,7 @@ def with_other_words(words, dice):
     elif kind == 6:
         words.append(1 << 63 | dice.choice([8, 56]) << 54 | dice.getrandbits(20))
     else:
-        words[1:] = [1 << 63 | 1 << 20 | number for number in range(dice.choice([15, 16, 17, 128, 129]))]
+        words[1:] = [1 << 63 | 1 << 20 | number for number in range(dice.choice([15, 16, 17, 63, 64, 65, 128, 129, 512, 513]))]
     if dice.random() < 0.8:
         words[0] = words[0] & ~(0x3FFF << 40) | (len(words) - 1) << 40
     return words
@@ -101,7 +101,7 @@ def messages_of(words):
         word = words[at]
         length = word >> 54 & 0xFF
         data = words[at + 1 : at + 1 + (length + 7) // 8]
-        if word >> 62 != 2 or length > 56 or word >> 48 & 0x3F or len(items) == 16:
+        if word >> 62 != 2 or length > 56 or word >> 48 & 0x3F or len(items) == 64:
             return None
         if len(data) != (length + 7) // 8:
             return None
@@ -117,7 +117,7 @@ def messages_of(words):
 def frame_of(place, record):
     """The words of a record at a place, its owner, its mark and its messages; None where it has no frame."""
     words = words_of(record[:-8])
-    if len(words) > 129 or record[-8:] != checksum(struct.pack(">Q", place) + record[:-8]):
+    if len(words) > 513 or record[-8:] != checksum(struct.pack(">Q", place) + record[:-8]):
         return None
     owner = words[0] >> 54 & 0xFF
     if words[1:] in ((END,), (LEAVE,)):

@@ -257,9 +257,15 @@ fn serve<F: JournalFile + Send + 'static>(
     policy: SyncPolicy,
     mut dice: Dice,
 ) -> Result<(), Fault> {
+    let log_words = [64, 256, 4096, 65_536][dice.below(4) as usize];
     let shape = Shape {
-        log_words: [64, 256, 4096, 65_536][dice.below(4) as usize],
+        log_words,
         ring: true,
+        batch: if log_words < 513 {
+            (log_words - 1) / 8
+        } else {
+            0
+        },
         ..Shape::of(WORKERS, WORKERS + 1)
     };
     let (senders, mut receivers) = Bus::open_after(shape, page)?;

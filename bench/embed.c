@@ -14,7 +14,7 @@
 static void bad_shapes(void) {
     kioskbasil_sender s[65] = {KIOSKBASIL_NONE};
     kioskbasil_receiver r[65] = {KIOSKBASIL_NONE};
-    kioskbasil_sizes good = {1, 2, 16, false, false}, bad = good;
+    kioskbasil_sizes good = {1, 2, 16, false, false, 0}, bad = good;
     EXPECT(kioskbasil_open(&good, s, 0, r, 1), KIOSKBASIL_BAD_SENDERS);
     EXPECT(kioskbasil_open(&good, s, 65, r, 65), KIOSKBASIL_BAD_SENDERS);
     EXPECT(kioskbasil_open(&good, s, 1, r, 0), KIOSKBASIL_BAD_RECEIVERS);
@@ -50,7 +50,7 @@ static void no_handles(void) {
     kioskbasil_heard heard;
     kioskbasil_item item;
     kioskbasil_left left;
-    kioskbasil_sizes sizes = {1, 2, 16, false, false};
+    kioskbasil_sizes sizes = {1, 2, 16, false, false, 0};
     kioskbasil_sender other = KIOSKBASIL_NONE;
     kioskbasil_receiver ear = KIOSKBASIL_NONE;
     int32_t order = 7;
@@ -119,9 +119,9 @@ static void no_handles(void) {
     EXPECT(kioskbasil_senders_page(NULL, 1, &left), KIOSKBASIL_NULL);
     EXPECT(kioskbasil_senders_page(&s, 0, &left), KIOSKBASIL_NULL);
     EXPECT(kioskbasil_senders_page(&s, 1, NULL), KIOSKBASIL_NULL);
-    for (uint32_t code = 0; code <= KIOSKBASIL_USED_HANDLE + 1; code++) {
+    for (uint32_t code = 0; code <= KIOSKBASIL_SHORT_RING + 1; code++) {
         int named = code <= KIOSKBASIL_NOT_LONG ||
-                    (code >= KIOSKBASIL_BAD_SENDERS && code <= KIOSKBASIL_USED_HANDLE);
+                    (code >= KIOSKBASIL_BAD_SENDERS && code <= KIOSKBASIL_SHORT_RING);
         EXPECT(strcmp(kioskbasil_text(code), "no code of this version") != 0, named);
         EXPECT(kioskbasil_refused(code), code >= 32);
     }
@@ -131,7 +131,7 @@ static void no_handles(void) {
 static void one_sender(bool again) {
     kioskbasil_sender s[1] = {KIOSKBASIL_NONE};
     kioskbasil_receiver r[2] = {KIOSKBASIL_NONE};
-    kioskbasil_sizes sizes = {1, again ? 2 : 3, 64, again, false};
+    kioskbasil_sizes sizes = {1, again ? 2 : 3, 64, again, false, 0};
     kioskbasil_turn_answer turn;
     kioskbasil_sender_shown sender;
     kioskbasil_receiver_shown receiver;
@@ -214,7 +214,7 @@ static void one_sender(bool again) {
 static void ends(void) {
     kioskbasil_sender s[1] = {KIOSKBASIL_NONE};
     kioskbasil_receiver r[1] = {KIOSKBASIL_NONE};
-    kioskbasil_sizes sizes = {1, 1, 16, false, false};
+    kioskbasil_sizes sizes = {1, 1, 16, false, false, 0};
     kioskbasil_left left;
     uint64_t seed = 5;
     uint8_t big[56] = {0};
@@ -234,7 +234,7 @@ static void ends(void) {
 static void last_sender(void) {
     kioskbasil_sender s[KIOSKBASIL_MOST_SENDERS] = {KIOSKBASIL_NONE};
     kioskbasil_receiver r[1] = {KIOSKBASIL_NONE};
-    kioskbasil_sizes sizes = {1, 1, 64, false, false};
+    kioskbasil_sizes sizes = {1, 1, 64, false, false, 0};
     kioskbasil_left left;
     uint64_t seed = 3, log[3] = {0};
     EXPECT(kioskbasil_open(&sizes, s, KIOSKBASIL_MOST_SENDERS, r, 1), KIOSKBASIL_OK);
@@ -259,7 +259,7 @@ static void send_one(kioskbasil_sender *s, uint64_t wanted, uint64_t *seed) {
 static void two_sittings(bool again, bool then) {
     kioskbasil_sender s[2] = {KIOSKBASIL_NONE};
     kioskbasil_receiver r[1] = {KIOSKBASIL_NONE};
-    kioskbasil_sizes sizes = {1, 4, 64, again, false};
+    kioskbasil_sizes sizes = {1, 4, 64, again, false, 0};
     kioskbasil_left left, high;
     kioskbasil_item items[4];
     uint64_t seed = 11;
@@ -319,7 +319,7 @@ static uint64_t pending(kioskbasil_sender *s) {
 static void several_turns(bool again) {
     kioskbasil_sender s[2] = {KIOSKBASIL_NONE};
     kioskbasil_receiver r[1] = {KIOSKBASIL_NONE};
-    kioskbasil_sizes sizes = {4, 8, 256, again, false};
+    kioskbasil_sizes sizes = {4, 8, 256, again, false, 0};
     kioskbasil_turn_answer turn = {7, 7, 7, 7};
     EXPECT(kioskbasil_open(&sizes, s, 2, r, 1), KIOSKBASIL_OK);
     EXPECT(kioskbasil_turns(s, 0, &turn), KIOSKBASIL_IDLE);
@@ -341,7 +341,7 @@ static void several_turns(bool again) {
 /* They stop before each turn that uses a random word, and nowhere else with GOING. Two senders take
    some single turns each, so that they have to vote in some of these sittings. */
 static void turns_that_vote(bool again) {
-    kioskbasil_sizes sizes = {4, 8, 256, again, false};
+    kioskbasil_sizes sizes = {4, 8, 256, again, false, 0};
     kioskbasil_sender_shown shown;
     uint64_t seed = 37, votes = 0;
     for (int sitting = 0; sitting < 300; sitting++) {
@@ -371,7 +371,7 @@ static void turns_that_vote(bool again) {
 static void telling(bool again) {
     kioskbasil_sender s[2] = {KIOSKBASIL_NONE};
     kioskbasil_receiver r[2] = {KIOSKBASIL_NONE};
-    kioskbasil_sizes sizes = {1, 8, 64, again, false};
+    kioskbasil_sizes sizes = {1, 8, 64, again, false, 0};
     kioskbasil_item items[4];
     uint64_t seed = 23;
     int32_t order = 7;
@@ -417,7 +417,7 @@ static void telling(bool again) {
 static void apart(bool again) {
     kioskbasil_sender s[2] = {KIOSKBASIL_NONE}, none = KIOSKBASIL_NONE;
     kioskbasil_receiver r[2] = {KIOSKBASIL_NONE}, deaf = KIOSKBASIL_NONE;
-    kioskbasil_sizes sizes = {1, 8, 64, again, false};
+    kioskbasil_sizes sizes = {1, 8, 64, again, false, 0};
     uint64_t seed = 29;
     int32_t order = 7;
     for (int i = 0; i < 2; i++) EXPECT(kioskbasil_open(&sizes, &s[i], 1, &r[i], 1), KIOSKBASIL_OK);
@@ -449,7 +449,7 @@ static void apart(bool again) {
 static void carrying(bool again) {
     kioskbasil_sender s[3] = {KIOSKBASIL_NONE}, new[2] = {KIOSKBASIL_NONE};
     kioskbasil_receiver r[1] = {KIOSKBASIL_NONE}, ear[1] = {KIOSKBASIL_NONE};
-    kioskbasil_sizes sizes = {1, 8, 64, again, false};
+    kioskbasil_sizes sizes = {1, 8, 64, again, false, 0};
     kioskbasil_item items[4];
     kioskbasil_left left, over;
     uint64_t seed = 31, number = 0;
@@ -509,7 +509,7 @@ static void carrying_later(bool again) {
     kioskbasil_sender s[3] = {KIOSKBASIL_NONE}, t[2] = {KIOSKBASIL_NONE}, u[3] = {KIOSKBASIL_NONE};
     kioskbasil_receiver r[1] = {KIOSKBASIL_NONE}, q[1] = {KIOSKBASIL_NONE};
     kioskbasil_receiver v[1] = {KIOSKBASIL_NONE};
-    kioskbasil_sizes sizes = {1, 8, 64, again, false};
+    kioskbasil_sizes sizes = {1, 8, 64, again, false, 0};
     kioskbasil_item items[4];
     kioskbasil_left left, over;
     uint64_t seed = 43, number = 0;
@@ -552,7 +552,7 @@ static void carrying_later(bool again) {
 static void no_page(bool again) {
     kioskbasil_sender s[2] = {KIOSKBASIL_NONE};
     kioskbasil_receiver r[2] = {KIOSKBASIL_NONE};
-    kioskbasil_sizes sizes = {1, 8, 64, again, false};
+    kioskbasil_sizes sizes = {1, 8, 64, again, false, 0};
     kioskbasil_left left;
     uint64_t seed = 47;
     EXPECT(kioskbasil_open(&sizes, s, 2, r, 1), KIOSKBASIL_OK);
@@ -583,7 +583,7 @@ static void no_page(bool again) {
 static void carrying_within_a_tenure(bool again) {
     kioskbasil_sender s[1] = {KIOSKBASIL_NONE}, full[1] = {KIOSKBASIL_NONE};
     kioskbasil_receiver r[1] = {KIOSKBASIL_NONE}, ear[1] = {KIOSKBASIL_NONE};
-    kioskbasil_sizes sizes = {1, 8, 64, again, false};
+    kioskbasil_sizes sizes = {1, 8, 64, again, false, 0};
     kioskbasil_item items[4];
     size_t many = 0;
     int out = 0, heard_while_out = 0;
@@ -614,7 +614,7 @@ static void carried_once(bool again) {
     for (int turns = 1; turns < 6; turns++) {
         kioskbasil_sender s[1] = {KIOSKBASIL_NONE}, t[1] = {KIOSKBASIL_NONE};
         kioskbasil_receiver r[1] = {KIOSKBASIL_NONE}, q[1] = {KIOSKBASIL_NONE};
-        kioskbasil_sizes sizes = {1, 8, 64, again, false};
+        kioskbasil_sizes sizes = {1, 8, 64, again, false, 0};
         kioskbasil_item items[4];
         size_t many = 0;
         uint64_t seed = 1;
@@ -636,7 +636,7 @@ static void carried_once(bool again) {
 /* A sender that lets go after each of its turns, alone and where the other one has begun too: that
    one sends, and ends the order. */
 static void letting_go(bool again) {
-    kioskbasil_sizes sizes = {1, again ? 2 : 8, 64, again, false};
+    kioskbasil_sizes sizes = {1, again ? 2 : 8, 64, again, false, 0};
     for (int turns = 0; turns < 400; turns++) {
         kioskbasil_sender s[2] = {KIOSKBASIL_NONE};
         kioskbasil_receiver r[1] = {KIOSKBASIL_NONE};
@@ -668,7 +668,7 @@ static void letting_go(bool again) {
 static void letting_go_behind(bool given_up) {
     kioskbasil_sender s[2] = {KIOSKBASIL_NONE};
     kioskbasil_receiver r[1] = {KIOSKBASIL_NONE};
-    kioskbasil_sizes sizes = {1, 2, 64, true, false};
+    kioskbasil_sizes sizes = {1, 2, 64, true, false, 0};
     kioskbasil_turn_answer answer;
     kioskbasil_left left;
     uint64_t seed = 59;
@@ -696,7 +696,7 @@ static void letting_go_behind(bool given_up) {
 static void behind(void) {
     kioskbasil_sender s[2] = {KIOSKBASIL_NONE}, t[2] = {KIOSKBASIL_NONE};
     kioskbasil_receiver r[1] = {KIOSKBASIL_NONE}, q[1] = {KIOSKBASIL_NONE};
-    kioskbasil_sizes sizes = {1, 2, 4096, true, false};
+    kioskbasil_sizes sizes = {1, 2, 4096, true, false, 0};
     kioskbasil_sender_shown before, after;
     kioskbasil_item items[16];
     uint64_t seed = 5;
@@ -738,7 +738,7 @@ static void behind(void) {
 static void reopening(void) {
     kioskbasil_sender s[2] = {KIOSKBASIL_NONE};
     kioskbasil_receiver r[2] = {KIOSKBASIL_NONE};
-    kioskbasil_sizes good = {1, 2, 16, true, false}, bad = {0, 2, 16, true, false};
+    kioskbasil_sizes good = {1, 2, 16, true, false, 0}, bad = {0, 2, 16, true, false, 0};
     kioskbasil_sender_shown shown;
     kioskbasil_left left;
     uint64_t seed = 3;
@@ -800,7 +800,7 @@ static void no_memory(kioskbasil_sizes sizes, const kioskbasil_left *left) {
 static void no_memory_to_fork(bool ring) {
     kioskbasil_sender s[1] = {KIOSKBASIL_NONE};
     kioskbasil_receiver r[2] = {KIOSKBASIL_NONE};
-    kioskbasil_sizes sizes = {1, 4, 64, true, ring};
+    kioskbasil_sizes sizes = {1, 4, 64, true, ring, ring ? 7 : 0};
     kioskbasil_left left;
     EXPECT(kioskbasil_open(&sizes, s, 1, r, 2), KIOSKBASIL_OK);
     kioskbasil_free_receiver(&r[1]);
@@ -819,7 +819,7 @@ static void no_memory_to_fork(bool ring) {
 static void leaving(bool again) {
     kioskbasil_sender s[2] = {KIOSKBASIL_NONE};
     kioskbasil_receiver r[2] = {KIOSKBASIL_NONE};
-    kioskbasil_sizes sizes = {1, 8, 64, again, false};
+    kioskbasil_sizes sizes = {1, 8, 64, again, false, 0};
     kioskbasil_turn_answer turn;
     kioskbasil_heard heard;
     kioskbasil_item items[4];
@@ -885,7 +885,7 @@ static void put_long(kioskbasil_sender *s) {
 static void ring_again(void) {
     kioskbasil_sender s[2] = {KIOSKBASIL_NONE};
     kioskbasil_receiver r[2] = {KIOSKBASIL_NONE};
-    kioskbasil_sizes sizes = {1, 2, 16, false, false};
+    kioskbasil_sizes sizes = {1, 2, 16, false, false, 1};
     kioskbasil_receiver_shown shown;
     kioskbasil_turn_answer turn;
     kioskbasil_item items[4];
@@ -925,17 +925,109 @@ static void ring_again(void) {
     EXPECT(left.counts[0] + left.counts[1], 600);
     EXPECT(left.ended, true);
     EXPECT(log[0] != 0 && log[10] != 0 && log[11] == 0, 1);
+    sizes.batch = 0;
     EXPECT(kioskbasil_open_after(&sizes, &left, s, 1, r, 1), KIOSKBASIL_OK);
     send_one(s, left.next[0], &seed);
-    sizes.ring = true;
+    sizes.ring = true, sizes.batch = 1;
     EXPECT(kioskbasil_open_after(&sizes, &left, s, 1, r, 1), KIOSKBASIL_OK);
     for (uint64_t i = 0; i < 40; i++) {
         send_one(s, left.next[0] + i, &seed);
         EXPECT(kioskbasil_hear(r, items, 4, &many), KIOSKBASIL_EMPTY);
     }
-    left.next[63] = (UINT64_C(1) << 48) - (UINT64_C(1) << 44) - 16;
-    EXPECT(kioskbasil_open_after(&sizes, &left, s, 1, r, 1), KIOSKBASIL_NUMBERS_USED);
+    for (uint64_t batch = 1; batch <= KIOSKBASIL_MOST_MESSAGES; batch++) {
+        sizes.batch = batch, sizes.log_words = 1 + 8 * batch < 16 ? 16 : 1 + 8 * batch;
+        left.next[63] = (UINT64_C(1) << 48) - batch * ((UINT64_C(1) << 40) + 1);
+        EXPECT(kioskbasil_open_after(&sizes, &left, s, 1, r, 1), KIOSKBASIL_NUMBERS_USED);
+        left.next[63]--;
+        EXPECT(kioskbasil_open_after(&sizes, &left, s, 1, r, 1), KIOSKBASIL_OK);
+    }
+    left.next[63]++, sizes.log_words--;
+    EXPECT(kioskbasil_open_after(&sizes, &left, s, 1, r, 1), KIOSKBASIL_SHORT_RING);
+    sizes.batch = 65;
+    EXPECT(kioskbasil_open_after(&sizes, &left, s, 1, r, 1), KIOSKBASIL_BAD_BATCH);
     kioskbasil_free_sender(s), kioskbasil_free_receiver(r);
+}
+
+/* Puts as many of the longest messages as a batch of such a bus takes, and one more. A batch of a
+   ring has room, and it is heard as it was put. */
+static void batch_of(kioskbasil_sizes sizes, uint64_t limit) {
+    kioskbasil_sender s[1] = {KIOSKBASIL_NONE};
+    kioskbasil_receiver r[1] = {KIOSKBASIL_NONE};
+    static kioskbasil_item items[KIOSKBASIL_MOST_MESSAGES + 1];
+    kioskbasil_turn_answer turn;
+    uint64_t seed = 89, number = 0;
+    size_t many = 0;
+    uint8_t big[56];
+    EXPECT(kioskbasil_open(&sizes, s, 1, r, 1), KIOSKBASIL_OK);
+    for (uint64_t i = 0; i < limit; i++) {
+        memset(big, (int)i, sizeof big);
+        EXPECT(kioskbasil_put(s, big, 56, &number), KIOSKBASIL_OK);
+        EXPECT(number, i);
+    }
+    EXPECT(kioskbasil_put(s, NULL, 0, &number), KIOSKBASIL_PUT_BATCH_FULL);
+    EXPECT(pending(s), limit);
+    if (sizes.log_words < 1 + 8 * limit) {
+        EXPECT(kioskbasil_has_room(s), KIOSKBASIL_NEVER_FITS);
+        EXPECT(send_when_room(s, &seed, NULL, NULL, NULL, NULL), KIOSKBASIL_NEVER_FITS);
+        EXPECT(kioskbasil_try_send(s, word_of, &seed, NULL), KIOSKBASIL_NEVER_FITS);
+        EXPECT(send_batch(s, &seed, NULL, NULL), KIOSKBASIL_FULL);
+        EXPECT(pending(s), limit);
+    } else {
+        EXPECT(kioskbasil_has_room(s), KIOSKBASIL_OK);
+        EXPECT(kioskbasil_try_send(s, word_of, &seed, &turn), KIOSKBASIL_DELIVERED);
+        EXPECT(turn.last, limit - 1);
+        EXPECT(kioskbasil_hear(r, items, limit + 1, &many), KIOSKBASIL_EMPTY);
+        EXPECT(many, limit);
+        for (uint64_t i = 0; i < many; i++) {
+            memset(big, (int)i, sizeof big);
+            EXPECT(items[i].number, i);
+            EXPECT(memcmp(items[i].bytes, big, 56), 0);
+        }
+    }
+    kioskbasil_free_sender(s), kioskbasil_free_receiver(r);
+}
+
+/* Which batches a bus may have, and how long a ring has to be for them. */
+static void batches(void) {
+    static const struct { bool ring; uint64_t batch, words; uint32_t code; } opened[] = {
+        {true, 0, 513, KIOSKBASIL_OK}, {true, 0, 512, KIOSKBASIL_SHORT_RING},
+        {true, 64, 513, KIOSKBASIL_OK}, {true, 64, 512, KIOSKBASIL_SHORT_RING},
+        {true, 63, 505, KIOSKBASIL_OK}, {true, 63, 504, KIOSKBASIL_SHORT_RING},
+        {true, 17, 137, KIOSKBASIL_OK}, {true, 17, 136, KIOSKBASIL_SHORT_RING},
+        {true, 16, 129, KIOSKBASIL_OK}, {true, 16, 128, KIOSKBASIL_SHORT_RING},
+        {true, 2, 17, KIOSKBASIL_OK}, {true, 2, 16, KIOSKBASIL_SHORT_RING},
+        {true, 1, 16, KIOSKBASIL_OK}, {true, 1, 15, KIOSKBASIL_BAD_LOG_WORDS},
+        {true, 65, 65536, KIOSKBASIL_BAD_BATCH}, {true, 65, 16, KIOSKBASIL_BAD_BATCH},
+        {true, UINT64_MAX, 65536, KIOSKBASIL_BAD_BATCH}, {true, 65, 15, KIOSKBASIL_BAD_LOG_WORDS},
+        {false, 0, 16, KIOSKBASIL_OK}, {false, 16, 16, KIOSKBASIL_OK},
+        {false, 16, 65536, KIOSKBASIL_OK}, {false, 17, 65536, KIOSKBASIL_BAD_BATCH},
+        {false, 15, 65536, KIOSKBASIL_BAD_BATCH}, {false, 1, 16, KIOSKBASIL_BAD_BATCH},
+        {false, 64, 65536, KIOSKBASIL_BAD_BATCH}, {false, 65, 65536, KIOSKBASIL_BAD_BATCH},
+    };
+    kioskbasil_sender s[1] = {KIOSKBASIL_NONE};
+    kioskbasil_receiver r[1] = {KIOSKBASIL_NONE};
+    for (size_t i = 0; i < sizeof opened / sizeof *opened; i++) {
+        bool ring = opened[i].ring;
+        kioskbasil_sizes sizes = {1, 2, opened[i].words, !ring, ring, opened[i].batch};
+        EXPECT(kioskbasil_open(&sizes, s, 1, r, 1), opened[i].code);
+        EXPECT(s[0].live, opened[i].code == KIOSKBASIL_OK);
+        kioskbasil_free_sender(s), kioskbasil_free_receiver(r);
+        sizes.ring = false;
+        if (ring) EXPECT(kioskbasil_open_ring(&sizes, s, 1, r, 1), opened[i].code);
+        kioskbasil_free_sender(s), kioskbasil_free_receiver(r);
+    }
+    batch_of((kioskbasil_sizes){1, 2, 513, false, true, 0}, KIOSKBASIL_MOST_MESSAGES);
+    batch_of((kioskbasil_sizes){1, 2, 65536, false, true, 0}, KIOSKBASIL_MOST_MESSAGES);
+    for (uint64_t batch = 1; batch <= KIOSKBASIL_MOST_MESSAGES; batch++) {
+        uint64_t words = 1 + 8 * batch < 16 ? 16 : 1 + 8 * batch;
+        batch_of((kioskbasil_sizes){1, 2, words, false, true, batch}, batch);
+    }
+    for (int again = 0; again < 2; again++) {
+        batch_of((kioskbasil_sizes){1, 2, 129, again, false, 0}, KIOSKBASIL_LOG_MESSAGES);
+        batch_of((kioskbasil_sizes){1, 2, 65536, again, false, 16}, KIOSKBASIL_LOG_MESSAGES);
+        batch_of((kioskbasil_sizes){1, 2, 128, again, false, 0}, KIOSKBASIL_LOG_MESSAGES);
+        batch_of((kioskbasil_sizes){1, 2, 16, again, false, 0}, KIOSKBASIL_LOG_MESSAGES);
+    }
 }
 
 /* As many receivers as there can be: the last one alone holds a frame up, until it has heard. */
@@ -943,7 +1035,7 @@ static void ring_of_most(void) {
     enum { LAST = KIOSKBASIL_MOST_RECEIVERS - 1 };
     kioskbasil_sender s[1] = {KIOSKBASIL_NONE};
     kioskbasil_receiver r[LAST + 1] = {KIOSKBASIL_NONE};
-    kioskbasil_sizes sizes = {1, 2, 16, false, false};
+    kioskbasil_sizes sizes = {1, 2, 16, false, false, 1};
     kioskbasil_item items[4];
     kioskbasil_left left;
     uint64_t seed = 71;
@@ -972,7 +1064,7 @@ static void ring_of_most(void) {
 static void ring_left(bool by_end) {
     kioskbasil_sender s[1] = {KIOSKBASIL_NONE};
     kioskbasil_receiver r[2] = {KIOSKBASIL_NONE};
-    kioskbasil_sizes sizes = {1, 8, 16, true, true};
+    kioskbasil_sizes sizes = {1, 8, 17, true, true, 2};
     kioskbasil_item items[4];
     kioskbasil_left left;
     uint64_t seed = 67;
@@ -989,10 +1081,10 @@ static void ring_left(bool by_end) {
     EXPECT(kioskbasil_has_room(s), KIOSKBASIL_OK);
     EXPECT(send_batch(s, &seed, NULL, NULL), KIOSKBASIL_DELIVERED);
     for (int i = 0; i < 2; i++) put_long(s);
-    EXPECT(kioskbasil_has_room(s), KIOSKBASIL_NEVER_FITS);
-    EXPECT(send_when_room(s, &seed, NULL, NULL, NULL, NULL), KIOSKBASIL_NEVER_FITS);
-    EXPECT(kioskbasil_hear(&r[0], items, 4, &many), KIOSKBASIL_EMPTY);
+    EXPECT(kioskbasil_has_room(s), KIOSKBASIL_FULL);
     EXPECT(send_batch(s, &seed, NULL, NULL), KIOSKBASIL_FULL);
+    EXPECT(kioskbasil_hear(&r[0], items, 4, &many), KIOSKBASIL_EMPTY);
+    EXPECT(kioskbasil_has_room(s), KIOSKBASIL_OK);
     EXPECT(pending(s), 2);
     EXPECT(kioskbasil_end(s, 1, r, 1, NULL, 0, &left), KIOSKBASIL_OK);
     EXPECT(left.words, 18);
@@ -1020,7 +1112,7 @@ static void hear_alike(kioskbasil_receiver *r, int count, uint64_t number) {
 static void forks_of_a_ring(void) {
     kioskbasil_sender s[1] = {KIOSKBASIL_NONE};
     kioskbasil_receiver r[3] = {KIOSKBASIL_NONE}, more = KIOSKBASIL_NONE;
-    kioskbasil_sizes sizes = {1, 2, 16, false, false};
+    kioskbasil_sizes sizes = {1, 2, 16, false, false, 1};
     kioskbasil_left left;
     uint64_t seed = 73;
     EXPECT(kioskbasil_open_ring(&sizes, s, 1, r, 3), KIOSKBASIL_OK);
@@ -1057,7 +1149,7 @@ static void forks_of_a_ring(void) {
 static void forks_within_a_frame(bool ring) {
     kioskbasil_sender s[1] = {KIOSKBASIL_NONE};
     kioskbasil_receiver r[4] = {KIOSKBASIL_NONE};
-    kioskbasil_sizes sizes = {1, 8, 16, true, ring};
+    kioskbasil_sizes sizes = {1, 8, 25, true, ring, ring ? 3 : 0};
     kioskbasil_heard heard;
     kioskbasil_item items[4];
     kioskbasil_left left;
@@ -1089,7 +1181,7 @@ static void forks_without_end(bool again) {
     enum { MANY = KIOSKBASIL_MOST_RECEIVERS + 6 };
     kioskbasil_sender s[1] = {KIOSKBASIL_NONE};
     kioskbasil_receiver r[MANY] = {KIOSKBASIL_NONE};
-    kioskbasil_sizes sizes = {1, 8, 64, again, false};
+    kioskbasil_sizes sizes = {1, 8, 64, again, false, 0};
     kioskbasil_left left;
     uint64_t seed = 83;
     EXPECT(kioskbasil_open(&sizes, s, 1, r, 1), KIOSKBASIL_OK);
@@ -1154,7 +1246,7 @@ static int storm(unsigned run) {
     kioskbasil_receiver r[SIDES] = {KIOSKBASIL_NONE};
     bool ring = run % 3 == 1, again = run % 2;
     uint64_t rows = again || ring ? 2 + run % 7 : 64, words = ring ? 64 + run % 64 : 1024;
-    kioskbasil_sizes sizes = {1 + run % 4, rows, words, again, ring};
+    kioskbasil_sizes sizes = {1 + run % 4, rows, words, again, ring, ring ? (words - 1) / 8 : 0};
     static struct side sides[2 * SIDES];
     struct bell bell = BELL_NEW;
     atomic_int left = SIDES;
@@ -1242,7 +1334,8 @@ static int lives(unsigned run) {
     kioskbasil_sender s[LIVES] = {KIOSKBASIL_NONE};
     kioskbasil_receiver r[EARS] = {KIOSKBASIL_NONE};
     bool ring = run % 3 == 1;
-    kioskbasil_sizes sizes = {1 + run % 4, 2 + run % 7, ring ? 16 + run % 256 : 512, run % 2, ring};
+    uint64_t words = ring ? 16 + run % 256 : 512, batch = ring ? (words - 1) / 8 : 0;
+    kioskbasil_sizes sizes = {1 + run % 4, 2 + run % 7, words, run % 2, ring, batch};
     static struct life all[LIVES + EARS];
     pthread_t threads[LIVES + EARS];
     int bad = kioskbasil_open(&sizes, s, LIVES, r, EARS) != KIOSKBASIL_OK, last = 0;
@@ -1278,7 +1371,7 @@ static void *hear_shared(void *given) {
 
 static void control(void) {
     kioskbasil_sender s[1] = {KIOSKBASIL_NONE};
-    kioskbasil_sizes sizes = {1, 2, 64, true, false};
+    kioskbasil_sizes sizes = {1, 2, 64, true, false, 0};
     pthread_t threads[2];
     if (kioskbasil_open(&sizes, s, 1, shared, 1)) exit(2);
     for (int i = 0; i < 2; i++) pthread_create(&threads[i], NULL, hear_shared, NULL);
@@ -1299,7 +1392,7 @@ static void timing(void) {
     for (int sitting = 0; sitting < 200; sitting++) {
         kioskbasil_sender s[1] = {KIOSKBASIL_NONE};
         kioskbasil_receiver r[1] = {KIOSKBASIL_NONE};
-        kioskbasil_sizes sizes = {1, 8, 65536, true, false};
+        kioskbasil_sizes sizes = {1, 8, 65536, true, false, 0};
         if (kioskbasil_open(&sizes, s, 1, r, 1)) exit(2);
         double begun = now();
         for (int batch = 0; batch < 1900; batch++) {
@@ -1426,7 +1519,7 @@ static double race(size_t senders, size_t receivers, uint64_t messages, size_t b
                    uint64_t rounds) {
     kioskbasil_sender s[KIOSKBASIL_MOST_SENDERS] = {KIOSKBASIL_NONE};
     kioskbasil_receiver r[KIOSKBASIL_MOST_RECEIVERS] = {KIOSKBASIL_NONE};
-    kioskbasil_sizes sizes = {rounds, 8, 65536, true, false};
+    kioskbasil_sizes sizes = {rounds, 8, 65536, true, false, 0};
     struct race race = {.messages = messages, .items = messages * senders, .bytes = bytes};
     static struct racer racers[KIOSKBASIL_MOST_SENDERS + KIOSKBASIL_MOST_RECEIVERS];
     pthread_t threads[KIOSKBASIL_MOST_SENDERS + KIOSKBASIL_MOST_RECEIVERS];
@@ -1502,7 +1595,7 @@ int main(int count, char **words) {
             carrying_within_a_tenure(again), carried_once(again);
         }
         behind();
-        ring_again(), ring_of_most(), ring_left(false), ring_left(true);
+        ring_again(), ring_of_most(), ring_left(false), ring_left(true), batches();
         forks_of_a_ring();
         for (int i = 0; i < 2; i++) {
             forks_within_a_frame(i == 1), forks_without_end(i == 1), no_memory_to_fork(i == 1);
@@ -1510,9 +1603,9 @@ int main(int count, char **words) {
         for (int i = 0; i < 2; i++) letting_go(i == 1), letting_go_behind(i == 1);
         reopening();
         kioskbasil_left ended = {.ended = true};
-        no_memory((kioskbasil_sizes){1, 4, 64, true, true}, NULL);
+        no_memory((kioskbasil_sizes){1, 4, 64, true, true, 7}, NULL);
         for (int again = 0; again < 2; again++) {
-            kioskbasil_sizes sizes = {1, 4, 64, again, false};
+            kioskbasil_sizes sizes = {1, 4, 64, again, false, 0};
             no_memory(sizes, NULL), no_memory(sizes, &ended);
         }
     }

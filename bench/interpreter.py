@@ -60,6 +60,11 @@ MUTANTS = [
     ("if (number <= r.number) return 'NotAbove';", "if (number === r.number) return 'NotAbove';"),
     ("new Map(freePlaces(receivers, seats))", "new Map()"),
     ("['Seats', sizes[1], 64]", "['Seats', 1, 64]"),
+    ("['Batch', 1, 64]", "['Batch', 0, 64]"),
+    ("['Batch', 1, 64]", "['Batch', 1, 65]"),
+    ("s.batch.length === most", "s.batch.length === 16"),
+    ("seats = receivers, most = 16", "seats = receivers, most = 64"),
+    ("const least = form && (word === 'ring' ? 5 : form.length);", "const least = form && (word === 'ring' ? 6 : form.length);"),
 ]
 
 # A sender sees tenure 0 open, falls asleep, and shows itself in it once tenure 2 is held: whoever clears a row then passes it by.
@@ -86,8 +91,8 @@ TIED_COIN = "".join([
     "turn 1 0 99\nturn 0 0 99\nput 1 " + 57 * "61" + "\n",
 ])
 
-# A ring with fewer seats than receivers.
-FEW_SEATS = "ring 1 3 1 2 64 2\n"
+# A ring with fewer seats than receivers, and rings whose batches have too few messages and too many.
+SIZES = ["ring 1 3 1 2 64 2\n", "ring 1 1 1 2 64 1 0\n", "ring 1 1 1 2 64 1 65\n"]
 
 
 class Node:
@@ -115,8 +120,8 @@ def broken(script, dice):
 
 
 def batch_of(seed, count):
-    """Scripts of all kinds, behind three fixed ones; the fourth of five as it is, and the fifth broken; of the others refused lines go."""
-    dice, batch = random.Random(seed), [[LATE_PRESENCE, True], [TIED_COIN, True], [FEW_SEATS, True]]
+    """Scripts of all kinds, behind fixed ones; the fourth of five as it is, and the fifth broken; of the others refused lines go."""
+    dice, batch = random.Random(seed), [[script, True] for script in (LATE_PRESENCE, TIED_COIN, *SIZES)]
     for number in range(count - len(batch)):
         script = (shaped_script, cyclic_script, ring_script)[number % 3](dice)
         if number % 5 == 4:

@@ -6,7 +6,7 @@
 
 use kioskbasil::journal::{self, End, Header, Journal, Safe, SyncPolicy, Watch};
 use kioskbasil::{Bus, Frame, Item, NextFrame, NextItems, Page, Receiver, Sender, Shape};
-use kioskbasil::{TrySendError, Turn, MOST_BYTES, MOST_MESSAGES};
+use kioskbasil::{TrySendError, Turn, LOG_MESSAGES, MOST_BYTES};
 use std::error::Error;
 use std::fs::{self, File};
 use std::io::Write;
@@ -27,7 +27,7 @@ const FEWER: u64 = 20;
 /// kept by one sync at most.
 const MESSAGE_WORDS: usize = 1 + MOST_BYTES / 8;
 const LOG_WORDS: usize = 65_536;
-const MOST_FRAMES: usize = LOG_WORDS / (1 + MOST_MESSAGES * MESSAGE_WORDS);
+const MOST_FRAMES: usize = LOG_WORDS / (1 + LOG_MESSAGES * MESSAGE_WORDS);
 
 /// What keeps the frames.
 #[derive(Clone, Copy, PartialEq, Eq)]
@@ -65,7 +65,7 @@ impl Kind {
             name,
             keeps,
             syncs,
-            batch: MOST_MESSAGES,
+            batch: LOG_MESSAGES,
             waits: false,
         }
     }
@@ -100,7 +100,7 @@ const KINDS: &[Kind] = &[
         Syncs::Every(TEN),
     ),
     Kind::of("journal, group commit", Keeps::Journal, Syncs::Batch),
-    Kind::waiting("the same, waits after each 16", MOST_MESSAGES),
+    Kind::waiting("the same, waits after each 16", LOG_MESSAGES),
     Kind::waiting("the same, waits after each one", 1),
     Kind::of("plain file, group commit", Keeps::Plain, Syncs::Batch),
     #[cfg(feature = "sqlite")]

@@ -249,7 +249,7 @@ static void vectors(void) {
 /* The bytes of a header and of one record, as they were worked out from docs/FORMATS.md. */
 static void bytes_are_these(void) {
     static const uint64_t wanted[] = {
-        0x4b494f534b4c4f47, 1, 1, 16, 0, 0, 0x5c97e020be06152b,
+        0x4b494f534b4c4f47, 1, 1, 64, 0, 0, 0x7bf888e657c2e37b,
         0x4000020000000000, 0x8040000000000000, 0x6100000000000000, 0x2d3c62919a3485bf};
     struct kioskbasil_frame frame = {0, 0, KIOSKBASIL_ITEM, 0, 1, {{0, 0, 1, "a"}}};
     struct kioskbasil_safe safe;
@@ -282,7 +282,7 @@ static void other_frames(void) {
     wrong[3].tenure = UINT64_C(1) << 40;
     wrong[4].place++;
     wrong[5].many = 0;
-    wrong[6].many = 17;
+    wrong[6].many = KIOSKBASIL_MOST_MESSAGES + 1;
     wrong[7].items[1].number++;
     wrong[8].items[0].sender = 0;
     wrong[9].items[1].length = 57;
@@ -334,6 +334,43 @@ static void small_batches(void) {
     EXPECT(kioskbasil_journal_close(&journal), KIOSKBASIL_OK);
     EXPECT(recovered(path, 0), 2);
     EXPECT(reader.end == JOURNAL_WHOLE && reader.header.most == 1, true);
+}
+
+/* The longest frames of a ring are heard whole, recorded, and given back. */
+static void full_batches(void) {
+    enum { MANY = KIOSKBASIL_MOST_MESSAGES };
+    static struct kioskbasil_frames heard;
+    struct kioskbasil_journal_header header = header_of(1);
+    kioskbasil_sizes sizes = {.rounds = 2, .rows = 8, .log_words = JOURNAL_WORDS, .ring = true};
+    kioskbasil_sender s[1] = {KIOSKBASIL_NONE};
+    kioskbasil_receiver r[1] = {KIOSKBASIL_NONE};
+    uint8_t bytes[KIOSKBASIL_MOST_BYTES];
+    unlink(path);
+    EXPECT(kioskbasil_open(&sizes, s, 1, r, 1), KIOSKBASIL_OK);
+    EXPECT(kioskbasil_journal_create(&journal, path, &header, JOURNAL_NEVER, 0), KIOSKBASIL_OK);
+    for (uint64_t round = 0; round < 3; round++) {
+        for (int i = 0; i < MANY; i++) {
+            memset(bytes, i, sizeof bytes);
+            EXPECT(kioskbasil_put(&s[0], bytes, sizeof bytes, NULL), KIOSKBASIL_OK);
+        }
+        send(&s[0]);
+        EXPECT(kioskbasil_try_frame(r, &heard, NULL), KIOSKBASIL_OK);
+        EXPECT(heard.frame.many, MANY);
+        EXPECT(heard.frame.place, round * JOURNAL_WORDS);
+        EXPECT(kioskbasil_journal_write(&journal, &heard.frame), KIOSKBASIL_OK);
+    }
+    EXPECT(kioskbasil_journal_close(&journal), KIOSKBASIL_OK);
+    EXPECT(file_size(path), 56 + 3 * JOURNAL_MOST_RECORD);
+    EXPECT(kioskbasil_journal_recover(&reader, path, NULL, NULL), KIOSKBASIL_OK);
+    EXPECT(reader.end == JOURNAL_WHOLE && reader.header.most == MANY, true);
+    EXPECT(reader.log.next[0], 3 * MANY);
+    EXPECT(is_same(&reader.frame, &heard.frame), true);
+    for (int i = 0; i < MANY; i++) {
+        memset(bytes, i, sizeof bytes);
+        EXPECT(memcmp(reader.frame.items[i].bytes, bytes, sizeof bytes), 0);
+    }
+    kioskbasil_free_sender(&s[0]);
+    kioskbasil_free_receiver(r);
 }
 
 /* How often each policy syncs: six frames, and a sync behind them. */
@@ -923,7 +960,7 @@ static void frames_behind_other_calls(void) {
 
 /* The bell rings where a frame of a ring is passed, and not where none is there. */
 static void passing_rings(void) {
-    kioskbasil_sizes sizes = {.rounds = 2, .rows = 8, .log_words = 64};
+    kioskbasil_sizes sizes = {.rounds = 2, .rows = 8, .log_words = 64, .batch = 7};
     kioskbasil_sender s[1] = {KIOSKBASIL_NONE};
     kioskbasil_receiver r[1] = {KIOSKBASIL_NONE};
     struct kioskbasil_frames heard = {0};
@@ -1013,7 +1050,8 @@ static void mix_frame(void *hash, const struct kioskbasil_frame *frame) {
 /* One sitting after this page, whose journal is made by then. */
 static void sit(const kioskbasil_left *page) {
     static const struct bell new_bell = BELL_NEW;
-    kioskbasil_sizes sizes = {.rounds = 2, .rows = 8, .log_words = 64, .ring = true};
+    kioskbasil_sizes sizes = {
+        .rounds = 2, .rows = 8, .log_words = 64, .ring = true, .batch = 7};
     pthread_t threads[SENDERS + 2];
     uint64_t seed = 1;
     run.bell = new_bell;
@@ -1092,6 +1130,7 @@ int main(int many, char **words) {
     other_frames();
     marks();
     small_batches();
+    full_batches();
     policies();
     nothing_follows_a_fault();
     interrupts();

@@ -110,18 +110,17 @@ static uint64_t item_of(uint64_t number, uint64_t sender) { return mixed(number 
 
 static uint8_t byte_of(uint64_t item, size_t at) { return (uint8_t)mixed(item + at); }
 
-/* Puts up to 16 items that fit the log together, where none waits. */
+/* Puts up to as many items as a batch may have, where none waits. */
 static void put_some(struct part *p) {
     kioskbasil_sender_shown shown = {0};
-    uint64_t words = 1, most = 1 + draw(&p->dice, KIOSKBASIL_MOST_MESSAGES);
+    uint64_t limit = sizes.batch ? sizes.batch : KIOSKBASIL_MOST_MESSAGES;
+    uint64_t most = 1 + draw(&p->dice, limit);
     kioskbasil_show_sender(p->sender, &shown);
     if (shown.pending) return;
     for (uint64_t i = 0; i < most && p->left; i++) {
         uint8_t bytes[KIOSKBASIL_MOST_BYTES];
         uint64_t item = item_of(shown.next_number + i, shown.number), number;
         size_t length = item % (KIOSKBASIL_MOST_BYTES + 1);
-        words += 1 + (length + 7) / 8;
-        if (words > sizes.log_words) return;
         for (size_t at = 0; at < length; at++) bytes[at] = byte_of(item, at);
         uint32_t code = kioskbasil_put(p->sender, bytes, length, &number);
         if (code != KIOSKBASIL_OK) wrong("put: %s", kioskbasil_text(code));
@@ -474,6 +473,10 @@ static void open_life(uint64_t *dice) {
     sizes.rounds = 1 + draw(dice, 2), sizes.rows = 2 + draw(dice, 1 + draw(dice, 4));
     sizes.ring = true;
     sizes.log_words = draw(dice, 4) ? 129 + draw(dice, 172) : 16 + draw(dice, 40);
+    if (!draw(dice, 6)) sizes.log_words = 513 + draw(dice, 172);
+    sizes.batch = (sizes.log_words - 1) / 8;
+    if (!draw(dice, 3)) sizes.batch = 1 + draw(dice, sizes.batch);
+    if (sizes.batch > KIOSKBASIL_MOST_MESSAGES) sizes.batch = 0;
     uint64_t each = 1 + draw(dice, 3000 / (1 + many_receivers / 8) / many_senders);
     gives_up = draw(dice, 2);
     uint64_t forks = draw(dice, 4) ? 4 + draw(dice, 160) / (1 + many_receivers / 4) : 0;
@@ -511,9 +514,10 @@ static void join_all(time_t seconds) {
                 fprintf(stderr, ", %zu heard", p->ears[e].place);
             fputc('\n', stderr);
         }
-        wrong("HANG: %zu senders, %d of %zu receivers, %llu words, %llu rows", many_senders,
-              atomic_load(&hearing), many_receivers, (unsigned long long)sizes.log_words,
-              (unsigned long long)sizes.rows);
+        wrong("HANG: %zu senders, %d of %zu receivers, %llu words, %llu rows, batches of %llu",
+              many_senders, atomic_load(&hearing), many_receivers,
+              (unsigned long long)sizes.log_words, (unsigned long long)sizes.rows,
+              (unsigned long long)sizes.batch);
     }
 }
 

@@ -14,12 +14,14 @@ static kioskbasil_receiver r[RECEIVERS];
 static struct kioskbasil_long heard[RECEIVERS];
 static struct bell bell;
 
+/* A ring with batches of 16 messages, where it has room for the longest. */
 static void open_bus(size_t senders, size_t receivers, uint64_t log_words) {
     static const struct bell new_bell = BELL_NEW;
-    kioskbasil_sizes sizes = {.rounds = 1, .rows = 8, .log_words = log_words};
+    kioskbasil_sizes sizes = {.rounds = 1, .rows = 8, .log_words = log_words, .batch = 16};
+    sizes.ring = log_words >= 129, sizes.again = true;
     bell = new_bell;
     memset(heard, 0, sizeof heard);
-    EXPECT(kioskbasil_open_ring(&sizes, s, senders, r, receivers), KIOSKBASIL_OK);
+    EXPECT(kioskbasil_open(&sizes, s, senders, r, receivers), KIOSKBASIL_OK);
 }
 
 static void free_bus(void) {

@@ -14,14 +14,14 @@ struct round { u64 brought[2], proposal, mark[2], votes; }; // a conciliator, an
 struct row { u64 announced[64], fallback[6]; struct round round[6][8]; };
 struct page { u64 next[64], ended, words, floor; } home;
 struct sender {
-    char *messages[16]; u64 len[16], count, first, least, tenure, stored, words;
+    char *messages[64]; u64 len[64], count, first, least, tenure, stored, words;
     int closing, leaving, closed, stopped, busy, phase, at, bit, spelled, candidate, round, value;
     int j;
     int own_votes, published, lost, withdrawn;
-    struct page page; u64 frame[129], presence, asked, cleared, loaded, lowest;
+    struct page page; u64 frame[513], presence, asked, cleared, loaded, lowest;
 } S[64];
 struct receiver { u64 place, known, left, tenure, owner, number, bytes, got, count, fresh, passed; int ended, gone, taken; unsigned char data[64]; } M[RECEIVERS + 1]; // by seat; the last hears the whole log in the end
-static u64 n, m, R, T, L, B, seats, stage, length, *word_of_log, *published, owners[256], owner_count;
+static u64 n, m, R, T, L, B, seats, most = 16, stage, length, *word_of_log, *published, owners[256], owner_count;
 static struct row *rows; static int cyclic, ringed, tells;
 static char *out; static size_t used, room;
 static void say(const char *format, u64 a, u64 b, u64 c, u64 d) {
@@ -197,16 +197,16 @@ static int is_hex(struct word w) {
     return w.len % 2 == 0;
 }
 static int is_good(const char *line, const char *end, int shaped) { // the form of a line that is not passed over
-    struct word w[7]; int count = 0, numbers = 0;
+    struct word w[8]; int count = 0, numbers = 0;
     for (const char *at = line;; at++) { // no word is empty, so there is one space between any two
         w[count].at = at; while (at < end && *at != ' ') at++;
         w[count].len = at - w[count].at;
         if (!w[count++].len) return 0;
         if (at == end) break;
-        if (count == 7) return 0;
+        if (count == 8) return 0;
     }
     while (numbers + 1 < count && is_number(w[numbers + 1], 0, UINT64_MAX)) numbers++;
-    if (!shaped) return (is(w[0], "shape") || is(w[0], "cycle") || is(w[0], "ring")) && (count == 6 || (count == 7 && is(w[0], "ring"))) && numbers == count - 1;
+    if (!shaped) return (is(w[0], "shape") || is(w[0], "cycle") || is(w[0], "ring")) && (count == 6 || (count > 6 && is(w[0], "ring"))) && numbers == count - 1;
     if (is(w[0], "put")) return count == 3 && numbers >= 1 && is_hex(w[2]);
     if (is(w[0], "close") || is(w[0], "stop") || is(w[0], "leave") || is(w[0], "gone")) return count == 2 && numbers == 1;
     if (is(w[0], "fork")) return count == 3 && numbers == 2;
@@ -226,17 +226,17 @@ int main(int argc, char **argv) {
         if (line == end || *line == '#') continue;
         if (!is_good(line, end, shaped)) { if (refused(passes, number, "BadLine")) goto stop; continue; }
         if (!shaped) {
-            ringed = *line == 'r'; cyclic = ringed || *line == 'c'; if (sscanf(line + (ringed ? 5 : 6), "%lu %lu %lu %lu %lu %lu", &n, &m, &R, &T, &L, &seats) < 6) seats = m;
+            ringed = *line == 'r'; cyclic = ringed || *line == 'c'; most = 16; if (sscanf(line + (ringed ? 5 : 6), "%lu %lu %lu %lu %lu %lu %lu", &n, &m, &R, &T, &L, &seats, &most) < 6) seats = m;
             B = 0; while (1u << B < n && n <= 64) B++;
             const char *why = n < 1 || n > 64 ? "Senders" : m < 1 || m > RECEIVERS ? "Receivers"
                 : R < 1 || R > 8 ? "Rounds" : T < (cyclic ? 2 : 1) || T > (cyclic ? 8 : 256) ? "Rows"
-                : L < 16 || L > 65536 ? "LogWords" : seats < m || seats > RECEIVERS ? "Seats" : 0;
+                : L < 16 || L > 65536 ? "LogWords" : seats < m || seats > RECEIVERS ? "Seats" : most < 1 || most > 64 ? "Batch" : 0;
             if (why) { seats = 0; if (refused(passes, number, why)) goto stop; continue; }
             shaped = 1; rows = calloc(T, sizeof *rows); word_of_log = calloc(L, 8);
             for (u64 i = 0; i < seats; i++) if (i < m) M[i].taken = 1; else { M[i].gone = 1; M[i].passed = UINT64_MAX; }
         } else if (*line == 'p') {
             s = strtoul(line + 4, &line, 10); struct sender *p = &S[s % 64]; line++; k = *line == '-' ? 0 : strlen(line) / 2;
-            const char *why = p->stopped ? "Stopped" : p->closing || p->leaving || p->closed ? "Closed" : p->busy ? "Busy" : k > 56 ? "TooLong" : p->count == 16 ? "BatchFull" : 0;
+            const char *why = p->stopped ? "Stopped" : p->closing || p->leaving || p->closed ? "Closed" : p->busy ? "Busy" : k > 56 ? "TooLong" : p->count == most ? "BatchFull" : 0;
             if (s >= n) why = "NoSuchSender";
             if (why) { if (refused(passes, number, why)) goto stop; continue; }
             p->messages[p->count] = malloc(k + 1); p->len[p->count] = k; for (u64 i = 0; i < k; i++) { unsigned b; sscanf(line + 2 * i, "%2x", &b); p->messages[p->count][i] = b; }

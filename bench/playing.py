@@ -23,6 +23,7 @@ function turnsShown() {
 function begin_bus(sizes, kind) {
     choose('rows-kind', kind);
     choose('size-5', '');
+    choose('size-6', '');
     sizes.forEach((size, place) => choose('size-' + place, size));
     press('new');
 }
@@ -61,7 +62,7 @@ function sequence(seed) {
     const kind = pick(random, ['shape', 'cycle', 'ring']);
     const receivers = 1 + Math.floor(random() * 2);
     begin_bus([1 + Math.floor(random() * 4), receivers, 1 + Math.floor(random() * 3), 2 + Math.floor(random() * 4), 64,
-        pick(random, ['', receivers + 1, receivers + 2])], kind);
+        pick(random, ['', receivers + 1, receivers + 2]), pick(random, ['', '', 1, 2, 64])], kind);
     const [clicks, busy] = [3 + Math.floor(random() * 20), random() < .5];
     for (let s = 0; busy && s < page.shape.senders; s += 1) { choose('whom', s); choose('message', 's' + s); press('put'); }
     for (let click = 0; click < clicks; click += 1) clickAny(random);
@@ -83,7 +84,9 @@ BAD = [
     "shape 1 1 1 1 16\nput 0 " + 57 * "61" + "\n", "shape 1 1 1 1 16\n" + 17 * "put 0 -\n", "shape 1 1 1 1 16\nput 0 -\nclose 0\n",
     "shape 1 1 1 1 16\nput 0 -\nturn 0 0 1\nput 0 -\n", "shape 1 1 1 1 16\nstop 0\nturn 0 0 1\n", "shape 1 1 1 1 16\nstop 0\nstop 0\n",
     "shape 1 1 1 1 16\nleave 0\nput 0 -\n", "shape 1 1 1 1 16\nput 18446744073709551616 -\n", "shape 1 1 1 1 16\nconstructor 0\n",
-    "ring 1 3 1 2 16 2\n", "ring 1 1 1 2 16 65\n", "ring 1 1 1 2 15 0\n", "ring 1 1 1 2 16 2 2\n", "shape 1 1 1 2 16 1\n", "fork 0 1\n",
+    "ring 1 3 1 2 16 2\n", "ring 1 1 1 2 16 65\n", "ring 1 1 1 2 15 0\n", "ring 1 1 1 2 16 2 2 2\n", "shape 1 1 1 2 16 1\n", "fork 0 1\n",
+    "ring 1 1 1 2 16 1 0\n", "ring 1 1 1 2 16 1 65\n", "ring 1 1 1 2 16 0 0\n", "ring 1 1 1 2 16 1 2\n" + 3 * "put 0 -\n",
+    "ring 1 1 1 2 16 1 64\n" + 65 * "put 0 -\n", "ring 1 1 1 2 16 1\n" + 17 * "put 0 -\n", "cycle 1 1 1 2 16 1 16\n",
     "ring 1 1 1 2 16 3\nrecv 1 1\n", "ring 1 1 1 2 16 3\ngone 2\n", "ring 1 1 1 2 16 3\nrecv 3 1\n", "ring 1 1 1 2 16 3\nfork 0 3\n",
     "ring 1 1 1 2 16 3\nfork 1 1\n", "ring 1 1 1 2 16 3\nfork 1 2\n", "ring 1 1 1 2 16 3\nfork 0 1 2\n", "ring 1 1 1 2 16 3\nfork 0\n",
     "shape 1 2 1 1 16\nfork 0 1\ngone 1\nfork 0 1\n", "shape 1 2 1 1 16\ngone 0\nfork 0 1\n",
@@ -94,7 +97,7 @@ BAD = [
 def free_places(script):
     """The passed places of a ring's seats that nobody has at first, as they begin."""
     first = next((line.split(" ") for line in script.split("\n") if line and not line.startswith("#")), [""])
-    if first[0] != "ring" or len(first) != 7 or not all(word.isdigit() for word in first[1:]):
+    if first[0] != "ring" or len(first) not in (7, 8) or not all(word.isdigit() for word in first[1:]):
         return {}
     return {f"passed {seat}": str(2**64 - 1) for seat in range(int(first[2]), min(64, int(first[6])))}
 
@@ -275,7 +278,7 @@ class Play:
                 turn = True
                 tab.do("document.activeElement.click(); 0")
         missed = {"sender 0", "sender 1", "receiver 0", "receiver 1", "times", "votes", "opening", "anew", "whom", "message", "put",
-                  "close", "leave", "stop", "gone", "fork", "free", "rows-kind", "size-0", "size-5", "new", "text", "copy", "read",
+                  "close", "leave", "stop", "gone", "fork", "free", "rows-kind", "size-0", "size-5", "size-6", "new", "text", "copy", "read",
                   "link"} - reached
         if missed:
             self.fail(f"Tab does not go to {sorted(missed)}")

@@ -95,16 +95,19 @@ def ring_script(dice): # receivers hear often or seldom, leave and fork; senders
     kind = dice.choice(8 * ["ring"] + ["shape", "cycle"])
     lines = [f"{kind} {n} {m} {dice.choice((1, 1, 2))} {rows} {dice.choice((16, 16, 17, 24, 64, 140, 300))}"]
     seats = Seats(m, seats_of(dice, m) if kind == "ring" else m)
-    if seats.seats > m or (kind == "ring" and dice.random() < 0.2):
+    most = dice.choice((0, 0, 1, 2, 5, 15, 16, 17, 40, 64)) if kind == "ring" else 0 # (0: it is left out, and is 16)
+    if seats.seats > m or most or (kind == "ring" and dice.random() < 0.2):
         lines[0] += f" {seats.seats}"
+    if most:
+        lines[0] += f" {most}"
     slow, naps = dice.choice((0, 0.2, 0.5, 0.9)), dice.choice((0, 0.1, 0.3))
     leaves, forks = dice.choice((0, 0.01, 0.05)), dice.choice((0, 0.05, 0.3, 0.9))
     closes, lengths = dice.choice((0, 0, 0.01)), dice.choice(((0, 1, 8), (20, 40, 56), (0, 8, 56)))
     hears, asleep = dice.choice(((1, 5, 9999), (9999,))), [0] * n
     for number in range(dice.choice((30, 100, 300)) if seats.seats <= 8 else 30): # (many receivers make long scripts)
         s = dice.choice([s for s in range(n) if asleep[s] <= number] or [*range(n)])
-        if dice.random() < 0.6:
-            lines.append(f"put {s} {bytes(dice.randrange(256) for _ in range(dice.choice(lengths))).hex() or '-'}")
+        many = 0 if dice.random() > 0.6 else 1 if dice.random() > 0.1 else dice.randint(2, (most or 16) + 1) # (now and then one too many)
+        lines += [f"put {s} {bytes(dice.randrange(256) for _ in range(dice.choice(lengths))).hex() or '-'}" for _ in range(many)]
         if dice.random() < naps:
             lines += [f"turn {s} {dice.getrandbits(32)} {turns}" for turns in dice.choice(([], [2000])) + [dice.randint(1, 20)]]
             asleep[s] = number + dice.choice((0, 5, 20))

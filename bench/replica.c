@@ -13,10 +13,12 @@
 
 enum { MOST = 8, OPERATIONS = 4096, TOO_LONG = 100 };
 
-/* How long operations are. A ring of 16 words has room for the first of them. */
+/* How long operations are. */
 static const size_t lengths[] = {0, 1, 55, 56, 102, 110, 879, 880, 30, 440};
-enum { LENGTHS = sizeof lengths / sizeof *lengths, SHORT = 5 };
-static size_t many_lengths = LENGTHS, longest = KIOSKBASIL_MOST_LONG_BYTES;
+enum { LENGTHS = sizeof lengths / sizeof *lengths };
+
+/* How long the shortest ring is: a batch of 64 messages has room. */
+enum { SHORTEST = 513 };
 
 /* An operation: of a worker and of a number among its own ones. */
 struct operation {
@@ -38,8 +40,9 @@ static struct book books[MOST];
 
 /* Every second one has one of the lengths above, and the others any. */
 static struct operation operation_of(uint32_t worker, uint32_t count) {
-    struct operation operation = {.length = lengths[(count / 2 * 7 + worker) % many_lengths]};
-    if (count % 2) operation.length = (count * 367 + worker * 101) % (longest + 1);
+    struct operation operation = {.length = lengths[(count / 2 * 7 + worker) % LENGTHS]};
+    if (count % 2)
+        operation.length = (count * 367 + worker * 101) % (KIOSKBASIL_MOST_LONG_BYTES + 1);
     for (size_t i = 0; i < operation.length; i++)
         operation.bytes[i] = (uint8_t)(count + worker + i);
     return operation;
@@ -59,8 +62,6 @@ static uint32_t open_all(size_t workers, uint64_t log_words) {
     kioskbasil_sizes sizes = {.rounds = 1, .rows = 8, .log_words = log_words};
     uint32_t code = replicas_open(&shared, &sizes, replicas, workers, apply);
     memset(books, 0, sizeof books);
-    many_lengths = log_words < 129 ? SHORT : LENGTHS;
-    longest = log_words < 129 ? lengths[SHORT - 1] : (size_t)KIOSKBASIL_MOST_LONG_BYTES;
     for (size_t i = 0; i < workers && code == KIOSKBASIL_OK; i++) replicas[i].state = &books[i];
     return code;
 }
@@ -172,14 +173,14 @@ static void run(size_t workers, uint64_t log_words) {
 
 static void runs(void) {
     ending = FINISHES;
-    run(1, 16);
-    run(3, 129);
-    run(8, 129);
-    run(8, 16);
+    run(1, SHORTEST);
+    run(3, SHORTEST);
+    run(8, SHORTEST);
+    run(8, 600);
     for (ending = GOES_ON; ending <= LEAVES; ending++) {
         for (turn = 0; turn < turns; turn++) {
-            run(3, 129);
-            run(8, 16);
+            run(3, SHORTEST);
+            run(8, SHORTEST);
         }
     }
 }
@@ -187,14 +188,15 @@ static void runs(void) {
 /* Of each length one, after each number of messages that wait: it is whole, answers its place, and
    has the number of its last piece. */
 static void of_each_length(void) {
+    enum { MESSAGES = KIOSKBASIL_MOST_MESSAGES };
     static struct operation it;
     uint64_t number = 0, next = 0;
-    EXPECT(open_all(1, 129), KIOSKBASIL_OK);
-    for (uint32_t count = 0; count < 16 * LENGTHS; count++) {
+    EXPECT(open_all(1, SHORTEST), KIOSKBASIL_OK);
+    for (uint32_t count = 0; count < MESSAGES * LENGTHS; count++) {
         uint32_t place = UINT32_MAX;
         it = operation_of(0, count);
         next += long_pieces(it.length);
-        if (count % 17 < count / LENGTHS) {
+        if (count % (MESSAGES + 1) < count / LENGTHS) {
             EXPECT(replica_submit(&replicas[0], it.bytes, it.length, &number), KIOSKBASIL_OK);
             EXPECT(number, next - 1);
             continue;
@@ -204,7 +206,7 @@ static void of_each_length(void) {
         EXPECT(books[0].many, count + 1);
     }
     EXPECT(replica_finish(&replicas[0]), KIOSKBASIL_OK);
-    EXPECT(books[0].many, 16 * LENGTHS);
+    EXPECT(books[0].many, MESSAGES * LENGTHS);
     EXPECT(books[0].faults, 0);
     free_all(1);
 }
@@ -213,15 +215,12 @@ static void codes(void) {
     static const uint8_t long_one[881] = {0};
     uint64_t number = 9;
     size_t many = 9;
-    EXPECT(open_all(0, 129), KIOSKBASIL_BAD_SENDERS);
-    EXPECT(open_all(KIOSKBASIL_MOST_RECEIVERS + 1, 129), KIOSKBASIL_BAD_RECEIVERS);
+    EXPECT(open_all(0, SHORTEST), KIOSKBASIL_BAD_SENDERS);
+    EXPECT(open_all(KIOSKBASIL_MOST_RECEIVERS + 1, SHORTEST), KIOSKBASIL_BAD_RECEIVERS);
     EXPECT(open_all(2, 15), KIOSKBASIL_BAD_LOG_WORDS);
-    EXPECT(open_all(1, 16), KIOSKBASIL_OK);
-    EXPECT(replica_submit(&replicas[0], long_one, 103, &number), KIOSKBASIL_NEVER_FITS);
-    EXPECT(replica_execute(&replicas[0], long_one, 880, NULL), KIOSKBASIL_NEVER_FITS);
-    EXPECT(execute(&replicas[0], 0, NULL), KIOSKBASIL_OK);
-    free_all(1);
-    EXPECT(open_all(2, 129), KIOSKBASIL_OK);
+    EXPECT(open_all(2, 16), KIOSKBASIL_SHORT_RING);
+    EXPECT(open_all(2, SHORTEST - 1), KIOSKBASIL_SHORT_RING);
+    EXPECT(open_all(2, SHORTEST), KIOSKBASIL_OK);
     EXPECT(replica_submit(&replicas[0], long_one, 881, &number), KIOSKBASIL_PUT_TOO_LONG);
     EXPECT(replica_execute(&replicas[0], long_one, 881, NULL), KIOSKBASIL_PUT_TOO_LONG);
     EXPECT(replica_submit(&replicas[0], NULL, 1, &number), KIOSKBASIL_NULL);
@@ -259,7 +258,7 @@ static void times(void) {
     uint32_t count = 0, many;
     size_t heard = 0;
     bool early = false;
-    EXPECT(open_all(2, 16), KIOSKBASIL_OK);
+    EXPECT(open_all(2, SHORTEST), KIOSKBASIL_OK);
     for (;; count++) {
         struct operation it = operation_of(0, count);
         if (replica_execute_timeout(&replicas[0], it.bytes, it.length, NULL, 30)) break;
@@ -296,7 +295,7 @@ static void times(void) {
    call goes on. */
 static void leaves_one_by_one(void) {
     size_t heard = 0;
-    EXPECT(open_all(2, 129), KIOSKBASIL_OK);
+    EXPECT(open_all(2, SHORTEST), KIOSKBASIL_OK);
     EXPECT(execute(&replicas[0], 0, NULL), KIOSKBASIL_OK);
     EXPECT(replica_leave_timeout(&replicas[0], 0), REPLICA_MISSING);
     EXPECT(replica_leave_timeout(&replicas[0], 30), REPLICA_MISSING);
@@ -324,7 +323,7 @@ static void leaves_one_by_one(void) {
    before its mark was taken, and then the worker may put operations still. */
 static void leaves_a_full_ring(void) {
     uint32_t code, next = 0;
-    EXPECT(open_all(2, 16), KIOSKBASIL_OK);
+    EXPECT(open_all(2, SHORTEST), KIOSKBASIL_OK);
     do {
         struct operation it = operation_of(0, next);
         code = replica_submit_timeout(&replicas[0], it.bytes, it.length, NULL, 0);
@@ -348,24 +347,26 @@ static void leaves_a_full_ring(void) {
     free_all(2);
 }
 
-/* Five operations leave one word of the ring, and a leave mark takes two. So the first has not left
-   itself until the second hears. */
+/* So many operations, of three words each, leave one word of the ring, and a leave mark takes two.
+   So the first has not left itself until the second hears. */
 static void leaves_without_room(void) {
+    enum { MANY = SHORTEST / 3 };
     size_t heard = 0;
-    EXPECT(open_all(2, 16), KIOSKBASIL_OK);
-    for (int i = 0; i < 5; i++) EXPECT(replica_execute(&replicas[0], NULL, 0, NULL), KIOSKBASIL_OK);
+    EXPECT(open_all(2, 3 * MANY + 1), KIOSKBASIL_OK);
+    for (int i = 0; i < MANY; i++)
+        EXPECT(replica_execute(&replicas[0], NULL, 0, NULL), KIOSKBASIL_OK);
     for (unsigned milliseconds = 0; milliseconds < 20; milliseconds += 10) {
         EXPECT(replica_leave_timeout(&replicas[0], milliseconds), REPLICA_MISSING);
         EXPECT(replicas[0].missing, 0);
         EXPECT(replica_submit(&replicas[0], NULL, 0, NULL), KIOSKBASIL_CLOSED);
     }
     EXPECT(replica_hear(&replicas[1], &heard), KIOSKBASIL_OK);
-    EXPECT(heard, 5);
+    EXPECT(heard, MANY);
     EXPECT(replica_leave_timeout(&replicas[0], 0), REPLICA_MISSING);
     EXPECT(replicas[0].missing, 1);
     EXPECT(replica_leave(&replicas[1]), KIOSKBASIL_OK);
     EXPECT(replica_leave(&replicas[0]), KIOSKBASIL_OK);
-    EXPECT(books[0].many, 5);
+    EXPECT(books[0].many, MANY);
     free_all(2);
 }
 
@@ -390,7 +391,7 @@ static void woken(void) {
     double begin = now();
     pthread_t thread;
     void *done = NULL;
-    EXPECT(open_all(2, 129), KIOSKBASIL_OK);
+    EXPECT(open_all(2, SHORTEST), KIOSKBASIL_OK);
     pthread_create(&thread, NULL, wait_twice, &replicas[1]);
     nanosleep(&pause, NULL);
     EXPECT(execute(&replicas[0], 0, NULL), KIOSKBASIL_OK);

@@ -42,14 +42,6 @@ fn operation(worker: u32, tag: u64) -> Vec<u8> {
     tag.to_le_bytes().into_iter().chain(filler).collect()
 }
 
-/// How many bytes an operation has at most that fits a log of so many words: behind a head each
-/// piece has a word, and one for each 8 bytes begun.
-fn longest(log_words: u64) -> u64 {
-    let (full, rest) = ((log_words - 1) / 8, (log_words - 1) % 8);
-    let last = if rest > 1 { 8 * (rest - 1) - 1 } else { 0 };
-    (55 * full + last).min(MOST_LONG_BYTES as u64)
-}
-
 impl State for Book {
     /// Its place in the order.
     type Answer = usize;
@@ -102,8 +94,6 @@ struct Worker {
     replica: Replica<Book>,
     shared: Arc<Shared>,
     dice: Dice,
-    /// How many bytes an operation has at most.
-    longest: u64,
     tag: u64,
     /// The number of what it has submitted last.
     number: Option<u64>,
@@ -114,23 +104,17 @@ struct Worker {
 
 impl Worker {
     fn next(&mut self) -> (u64, Vec<u8>) {
-        let most = self.dice.of_these(&[9, 55, 120, self.longest]);
-        let length = 8 + self.dice.below(most.min(self.longest) - 7);
+        let most = self.dice.of_these(&[9, 55, 120, MOST_LONG_BYTES as u64]);
+        let length = 8 + self.dice.below(most - 7);
         self.tag = ((self.tag >> LENGTH_BITS) + 1) << LENGTH_BITS | length;
         (self.tag, operation(self.replica.number(), self.tag))
     }
 
     /// One that is longer than any may be is refused, and changes nothing.
     fn put_too_long(&mut self) {
-        let bytes = vec![0; self.longest as usize + 1];
-        let is_most = bytes.len() > MOST_LONG_BYTES;
-        let why = if is_most {
-            ReplicaError::TooLong
-        } else {
-            ReplicaError::NeverFits
-        };
-        assert_eq!(self.replica.submit(&bytes), Err(why));
-        assert_eq!(self.replica.execute(&bytes), Err(why));
+        let bytes = [0; MOST_LONG_BYTES + 1];
+        assert_eq!(self.replica.submit(&bytes), Err(ReplicaError::TooLong));
+        assert_eq!(self.replica.execute(&bytes), Err(ReplicaError::TooLong));
     }
 
     fn pause(&mut self) -> Duration {
@@ -382,7 +366,7 @@ pub fn life(dice: &mut Dice) -> usize {
     let shape = Shape {
         rounds: 1 + dice.below(3),
         rows: 2 + dice.below(7),
-        log_words: dice.of_these(&[16, 17, 64, 129, 463, 4096]),
+        log_words: dice.of_these(&[513, 514, 520, 600, 1024, 4096]),
         ..Shape::of(1 + dice.below(8) as usize, 1)
     };
     let (calls, panics) = (dice.below(150), dice.one_in(3));
@@ -410,7 +394,6 @@ pub fn life(dice: &mut Dice) -> usize {
             replica,
             shared: shared.clone(),
             dice: dice.other(),
-            longest: longest(shape.log_words),
             tag: 0,
             number: None,
             put: Vec::new(),

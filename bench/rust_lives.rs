@@ -8,7 +8,7 @@ mod replica_lives;
 
 use kioskbasil::{
     Bus, Ended, ForkError, Heard, Item, NeverFits, Next, NextItems, PutError, Receiver, Sender,
-    Shape, TrySendError, Turn, Waiting, MOST_RECEIVERS, MOST_SENDERS,
+    Shape, TrySendError, Turn, Waiting, MOST_MESSAGES, MOST_RECEIVERS, MOST_SENDERS,
 };
 use std::collections::VecDeque;
 use std::future::Future;
@@ -94,6 +94,21 @@ fn put_some(sender: &mut Sender, most: u64, log_words: u64) -> u64 {
         many += 1;
     }
     many
+}
+
+/// How many messages the next batch of this sender is to have.
+fn some(sender: &Sender, dice: &mut Dice) -> u64 {
+    1 + dice.below(sender.batch_limit())
+}
+
+/// Messages of a batch of a ring of so many words: mostly as many as it may have.
+fn batch_of(dice: &mut Dice, log_words: u64) -> u64 {
+    let most = ((log_words - 1) / 8).min(MOST_MESSAGES as u64);
+    match dice.below(4) {
+        0 => 1 + dice.below(most),
+        1 if most == MOST_MESSAGES as u64 => 0,
+        _ => most,
+    }
 }
 
 // ---- what all receivers hear
@@ -333,7 +348,7 @@ impl Mouth {
                 let _ = sender.leave();
                 return;
             }
-            let many = put_some(sender, 1 + dice.below(16), shared.log_words);
+            let many = put_some(sender, some(sender, dice), shared.log_words);
             shared.puts.fetch_add(many, SeqCst);
             let put = &shared.put[usize::from(sender.number())];
             put.store(sender.next_number(), SeqCst);
@@ -651,16 +666,19 @@ fn threads_shape(dice: &mut Dice) -> (Shape, u64) {
         64 + dice.below(400),
         129,
         129 + dice.below(172),
+        513 + dice.below(172),
     ];
+    let log_words = if ring {
+        dice.of_these(&lengths)
+    } else {
+        65_536
+    };
     let shape = Shape {
         rounds: 1 + dice.below(3),
         rows: 2 + dice.below(7),
-        log_words: if ring {
-            dice.of_these(&lengths)
-        } else {
-            65_536
-        },
+        log_words,
         ring,
+        batch: if ring { batch_of(dice, log_words) } else { 0 },
         ..Shape::of(senders, receivers)
     };
     let few = senders > 8 || !ring;
@@ -1084,7 +1102,8 @@ async fn send_many(
     stops: bool,
 ) {
     while left > 0 || sender.pending() > 0 {
-        left -= put_some(&mut sender, left.min(1 + dice.below(16)), u64::MAX);
+        let most = left.min(some(&sender, &mut dice));
+        left -= put_some(&mut sender, most, u64::MAX);
         let turn = if dice.one_in(3) {
             few_polls(sender.send_async(), dice.below(3)).await
         } else {
@@ -1150,7 +1169,8 @@ fn tasks_life(dice: &mut Dice) -> usize {
 /// Sends over rows that are used once, until they are spent.
 async fn spend(sending: Arc<Sending>, mut sender: Sender, mut dice: Dice, mut left: u64) {
     while left > 0 {
-        left -= put_some(&mut sender, left.min(1 + dice.below(16)), u64::MAX);
+        let most = left.min(some(&sender, &mut dice));
+        left -= put_some(&mut sender, most, u64::MAX);
         let turn = few_polls(sender.send_async(), dice.of_these(&[0, 1, 2, 9999])).await;
         match turn {
             Some(Turn::Delivered { .. }) => {}
@@ -1216,7 +1236,7 @@ fn closes(sending: &Sending, sender: &mut Sender, left: u64, turn: Turn) -> bool
 async fn send_to_ring(sending: Arc<Sending>, mut sender: Sender, mut dice: Dice, mut left: u64) {
     let mut turn = Turn::Idle;
     while puts_more(&sending, &mut dice, turn) && left > 0 {
-        let most = left.min(1 + dice.below(16));
+        let most = left.min(some(&sender, &mut dice));
         left -= put_some(&mut sender, most, sending.log_words);
         (sender, turn) = send_with_room(sender, &mut dice).await;
     }
@@ -1251,7 +1271,7 @@ async fn work_on_ring(
 ) {
     let (mut turn, mut ears) = (Turn::Idle, vec![ear]);
     while puts_more(&sending, &mut dice, turn) && left > 0 {
-        let most = left.min(1 + dice.below(16));
+        let most = left.min(some(&sender, &mut dice));
         left -= put_some(&mut sender, most, sending.log_words);
         turn = loop {
             let polls = dice.of_these(&[0, 1, 9999]);
@@ -1304,10 +1324,12 @@ fn ring_shape(dice: &mut Dice, does_both: bool) -> Shape {
         1 + dice.below(4) as usize
     };
     let lengths = [16 + dice.below(100), 129 + dice.below(170), 1024];
+    let log_words = dice.of_these(&lengths);
     Shape {
         rounds: 1 + dice.below(2),
         rows: 2 + dice.below(4),
-        log_words: dice.of_these(&lengths),
+        log_words,
+        batch: batch_of(dice, log_words),
         ..Shape::of(senders, receivers)
     }
 }

@@ -11,7 +11,7 @@
 #include <stdlib.h>
 #include <time.h>
 
-enum { SENDERS = 3, HEARERS = 3, THREADS = SENDERS + HEARERS };
+enum { SENDERS = 3, HEARERS = 3, THREADS = SENDERS + HEARERS, BATCH = 16 };
 
 static kioskbasil_sender senders[SENDERS];
 static kioskbasil_receiver receivers[KIOSKBASIL_MOST_RECEIVERS];
@@ -49,7 +49,7 @@ static void *send(void *own) {
     uint64_t dice = (uint64_t)(sender - senders);
     pthread_barrier_wait(&up);
     for (uint64_t sent = 0; sent < messages;) {
-        for (int many = 0; many < KIOSKBASIL_MOST_MESSAGES && sent < messages; many++, sent++)
+        for (int many = 0; many < BATCH && sent < messages; many++, sent++)
             want(kioskbasil_put(sender, &sent, sizeof sent, NULL) == KIOSKBASIL_OK, "put");
         send_batch(sender, &dice);
     }
@@ -62,9 +62,9 @@ static void *hear(void *own) {
     uint64_t next[SENDERS] = {0};
     pthread_barrier_wait(&up);
     for (uint64_t heard = 0; heard < SENDERS * messages;) {
-        kioskbasil_item items[KIOSKBASIL_MOST_MESSAGES];
+        kioskbasil_item items[BATCH];
         size_t found;
-        uint32_t code = kioskbasil_hear(receiver, items, KIOSKBASIL_MOST_MESSAGES, &found);
+        uint32_t code = kioskbasil_hear(receiver, items, BATCH, &found);
         want(!kioskbasil_refused(code), kioskbasil_text(code));
         for (size_t i = 0; i < found; i++) {
             want(items[i].number == next[items[i].sender]++, "another order");
@@ -78,7 +78,7 @@ static void *hear(void *own) {
 
 int main(int count, char **words) {
     if (count != 5) return 2;
-    kioskbasil_sizes sizes = {.rounds = 2, .rows = 8};
+    kioskbasil_sizes sizes = {.rounds = 2, .rows = 8, .batch = BATCH};
     pthread_t threads[THREADS];
     size_t seats = strtoul(words[1], NULL, 10);
     sizes.log_words = strtoul(words[2], NULL, 10);

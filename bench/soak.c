@@ -24,7 +24,7 @@ static struct bell bell = BELL_NEW;
 static atomic_int at_work, warm;
 static atomic_llong memory_before;
 static int workers, leaves, sleeps;
-static uint64_t each, all, words;
+static uint64_t each, all, words, batch; /* batch: the most messages that one may have */
 
 struct worker {
     kioskbasil_sender *sender;
@@ -111,10 +111,10 @@ static uint32_t send_and_hear(struct worker *w) {
     return code;
 }
 
-/* Puts messages until the batch has no room for more words than half a ring, or 16 messages. */
+/* Puts messages until the batch has no room for more words than half a ring, or for one more. */
 static uint64_t fill(struct worker *w, uint64_t count) {
-    uint64_t room = words / 2 < 129 ? words / 2 : 129, put = 0;
-    for (room -= 1; put < 16 && count + put < each; put++) {
+    uint64_t longest = 1 + 8 * batch, room = words / 2 < longest ? words / 2 : longest, put = 0;
+    for (room -= 1; put < batch && count + put < each; put++) {
         uint64_t bytes[LONGEST], length = draw(&w->dice) % (LONGEST * 8 + 1);
         if (1 + (length + 7) / 8 > room) break;
         room -= 1 + (length + 7) / 8;
@@ -160,7 +160,8 @@ int main(int argc, char **argv) {
     each = strtoull(argv[1], NULL, 10) / (uint64_t)workers, all = each * (uint64_t)workers;
     for (int at = 4; at < argc; at++)
         leaves |= !strcmp(argv[at], "leave"), sleeps |= !strcmp(argv[at], "sleep");
-    kioskbasil_sizes sizes = {.rounds = 1, .rows = 8, .log_words = words};
+    batch = (words - 1) / 8 < KIOSKBASIL_MOST_MESSAGES ? (words - 1) / 8 : KIOSKBASIL_MOST_MESSAGES;
+    kioskbasil_sizes sizes = {.rounds = 1, .rows = 8, .log_words = words, .batch = batch};
     uint32_t code =
         kioskbasil_open_ring(&sizes, senders, (size_t)workers, receivers, (size_t)workers);
     if (code != KIOSKBASIL_OK) return fprintf(stderr, "soak: %s\n", kioskbasil_text(code)), 1;

@@ -314,7 +314,7 @@ static void bounded_behind(void) {
 static void bounded_room(void) {
     struct bus bus;
     kioskbasil_item items[4];
-    kioskbasil_sizes sizes = {.rounds = 1, .rows = 8, .log_words = 17, .ring = true};
+    kioskbasil_sizes sizes = {.rounds = 1, .rows = 8, .log_words = 17, .ring = true, .batch = 2};
     uint64_t seed = 1;
     size_t many;
     uint8_t long_one[56] = {0};

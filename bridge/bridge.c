@@ -218,7 +218,7 @@ static enum bridge_sent send_waiting(struct bridge *bridge, size_t worker) {
 static enum bridge_sent may_send(struct bridge *bridge, size_t worker,
                                  const struct bridge_message *messages, size_t many) {
     struct fetched *own = &bridge->fetched[worker];
-    if (!many || many > KIOSKBASIL_MOST_MESSAGES) return BRIDGE_TOO_MANY;
+    if (!many || many > BRIDGE_MOST_SEND) return BRIDGE_TOO_MANY;
     if (bridge_stops(bridge)) return BRIDGE_STOPPED;
     if (!atomic_load(&bridge->is_open)) return BRIDGE_NOT_YET;
     for (size_t i = 0; i < many; i++) {

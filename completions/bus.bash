@@ -22,7 +22,7 @@ _bus() {
         return
         ;;
     "run --senders" | "run --receivers") names="1 2 3 4 5 6 7 8" ;;
-    "log --senders" | *" --messages" | *" --seed") ;;
+    "log --senders" | "log --batch" | *" --messages" | *" --seed") ;;
     " "*) names="ratify replay trace run log journal" ;;
     esac
     if [[ "$word" == -* ]]; then
@@ -35,7 +35,7 @@ _bus() {
         ratify | replay) names="-h --help" ;;
         trace) names="--svg --html --play -h --help" ;;
         run) names="--senders --receivers --messages --seed --log --journal -h --help" ;;
-        log) names="--senders -h --help" ;;
+        log) names="--senders --batch -h --help" ;;
         journal) names="--repair -h --help" ;;
         esac
     fi

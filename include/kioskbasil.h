@@ -20,9 +20,13 @@
  * loop of send_while and hear_while of examples/c/waiting.h, as in examples/c/counters.c. Each FULL
  * takes a tenure, so after it ask kioskbasil_has_room while you hear, until that is OK.
  *
- * A batch longer than the log is FULL for good, and its sender then neither sends, closes nor
- * leaves: give a ring 129 words or more, or count the words of a batch before each put: 1, and of
- * each message 1 and one for each 8 bytes begun. kioskbasil_has_room tells it after the put.
+ * BATCHES. Messages of one sender that wait are its batch, which comes into the order as one frame.
+ * A batch of a ring has 64 messages at most, or fewer where its sizes say so (`batch`), and one of
+ * another bus 16. Where it may have B messages a ring has 1 + 8 B words or more, which are 513 for
+ * 64, so each batch fits. A log that is no ring may be shorter than a batch, which then is FULL for
+ * good, and its sender neither sends, closes nor leaves. So give it 129 words or more, or count the
+ * words of a batch before each put: 1, and of each message 1 and one for each 8 bytes begun.
+ * kioskbasil_has_room tells it after the put.
  *
  * The functions bus_c_.. are those of the archive (crates/bus_c), whose contracts say what each
  * does. kioskbasil_version() tells whether this archive is proved against them. The functions
@@ -45,10 +49,10 @@
  * is given to one call at a time. It goes to another thread by the start or the join of a thread,
  * or by a lock. No call is made from a signal handler, or in the child of a fork.
  *
- * STACK. With 64 senders kioskbasil_open, kioskbasil_open_ring and kioskbasil_open_after take up to
- * 17 KiB of stack, so a thread with 16 KiB cannot open; kioskbasil_senders_page takes 5 KiB,
- * kioskbasil_end 3, any other call 2. It was measured on an archive that is built without a proof
- * (./quick), beyond what a thread takes that does nothing.
+ * STACK. kioskbasil_open, kioskbasil_open_ring and kioskbasil_open_after take up to 37 KiB of
+ * stack, so a thread with 32 KiB cannot open; kioskbasil_senders_page takes up to 8 KiB, any other
+ * call 5. It was measured on an archive that is built without a proof (./quick), beyond what a
+ * thread takes that does nothing.
  *
  * MEMORY. The archive asks memory of three functions, rattle_alloc, rattle_realloc and
  * rattle_dealloc. examples/c/heap.c has them, with what each has to keep: link it once. In a
@@ -66,10 +70,11 @@
  *     meanwhile;
  *   - malloc, realloc and free are those of the C library, or as good.
  *
- * ROOM FOR MORE. Answers above KIOSKBASIL_LEAVE, refusals above KIOSKBASIL_USED_HANDLE, further
+ * ROOM FOR MORE. Answers above KIOSKBASIL_LEAVE, refusals above KIOSKBASIL_SHORT_RING, further
  * calls, and further fields at the ends of structs may come. So a program is compiled with the
  * header that its archive came with, and anew where it was compiled with an older one: this header
- * has three such fields, `ring`, `passed` and `floor`. So start each struct as zeros (`= {0}`).
+ * has four such fields, `ring`, `batch`, `passed` and `floor`. So start each struct as zeros
+ * (`= {0}`).
  */
 #ifndef KIOSKBASIL_H
 #define KIOSKBASIL_H
@@ -98,7 +103,8 @@ enum {
   KIOSKBASIL_MOST_SENDERS = 64,
   KIOSKBASIL_MOST_RECEIVERS = 64,
   KIOSKBASIL_MOST_BYTES = 56,
-  KIOSKBASIL_MOST_MESSAGES = 16
+  KIOSKBASIL_MOST_MESSAGES = 64, /* of a batch of a ring */
+  KIOSKBASIL_LOG_MESSAGES = 16   /* of a batch of another bus */
 };
 
 /* What a call answers: done, an answer of a sender or of a receiver, or a refusal. */
@@ -114,7 +120,7 @@ enum kioskbasil_code {
   KIOSKBASIL_DELIVERED = 6, /* its messages from .first to .last stand in the order, in the frame
                                of .tenure */
   KIOSKBASIL_FULL = 7,      /* its frame does not fit the log; the batch is kept. Of a ring it is to
-                               be tried again, unless it is longer than the log */
+                               be tried again */
   KIOSKBASIL_CLOSED = 8,    /* the order has ended, by this sender or another, or this sender had
                                left */
   KIOSKBASIL_SPENT = 9,     /* no tenure is left to this sender: all have ended, or it lost the last
@@ -145,7 +151,8 @@ enum kioskbasil_code {
   KIOSKBASIL_PUT_BUSY = 39,       /* put, carry: the batch is on its way; carry: the sender that is
                                      carried from has begun a tenure */
   KIOSKBASIL_PUT_TOO_LONG = 40,   /* put: more than 56 bytes; kioskbasil_put_long: more than 880 */
-  KIOSKBASIL_PUT_BATCH_FULL = 41, /* put, carry: more than 16 messages would wait */
+  KIOSKBASIL_PUT_BATCH_FULL = 41, /* put, carry: more messages would wait than a batch of the bus
+                                     may have */
   KIOSKBASIL_CLOSE_CLOSED = 42,   /* close, leave: one was accepted, or the order is known to have
                                      ended */
   KIOSKBASIL_CLOSE_BUSY = 43,     /* close, leave: the batch is on its way */
@@ -157,14 +164,18 @@ enum kioskbasil_code {
   KIOSKBASIL_NOT_ENDED = 49,      /* open_after, senders_page: the order of the bus before has not
                                      ended */
   KIOSKBASIL_NUMBERS_USED = 50,   /* open_after: a next number is 2^48 - 65,536 or more; of a ring
-                                     2^48 - 2^44 - 16 or more */
+                                     with batches of B messages 2^48 - B * (2^40 + 1) or more */
   KIOSKBASIL_OTHER_BUS = 51,      /* tell, meet, senders_page: the handles are of two buses */
   KIOSKBASIL_UNANSWERED = 52,     /* senders_page: a sender was not answered CLOSED or LEFT yet, or
                                      the handles are not those of all senders in their order */
-  KIOSKBASIL_NEVER_FITS = 53,     /* has_room, try_send: the batch is longer than the log */
+  KIOSKBASIL_NEVER_FITS = 53,     /* has_room, try_send: the batch is longer than the log, which is
+                                     no ring */
   KIOSKBASIL_NO_SEAT = 54,        /* fork: of a ring, each number above the receiver's own was
                                      taken when it was tried */
-  KIOSKBASIL_USED_HANDLE = 55     /* fork: the handle that is to be filled is not empty */
+  KIOSKBASIL_USED_HANDLE = 55,    /* fork: the handle that is to be filled is not empty */
+  KIOSKBASIL_BAD_BATCH = 56,      /* open: of a ring not 1 to 64 messages of a batch, else not 16 */
+  KIOSKBASIL_SHORT_RING = 57      /* open: the log of a ring has fewer words than its longest frame,
+                                     which is 1 + 8 B for batches of B messages: 513 for 64 */
 };
 
 /* A code of 32 or more says that nothing was done, but of three calls. After IN_USE and PAGE_OUT of
@@ -192,12 +203,14 @@ typedef struct kioskbasil_sizes {
   uint64_t rounds;    /* rounds of one binary decision: 1 to 8; any is safe, 2 are usual */
   uint64_t rows;      /* tenures of the sitting, 1 to 256; where rows are used again 2 to 8; a batch
                          takes one, a close and a leave too */
-  uint64_t log_words; /* words of the whole order, of a ring those that stand at once; 16 to 65,536:
-                         a batch takes 1, a message 1 and one for each 8 bytes begun, a close or a
-                         leave 2 */
+  uint64_t log_words; /* words of the whole order, of a ring those that stand at once; 16 to 65,536,
+                         of a ring with batches of B messages 1 + 8 B or more: a batch takes 1, a
+                         message 1 and one for each 8 bytes begun, a close or a leave 2 */
   bool again;         /* 0 or 1: rows of words are used again, up to 2^40 tenures */
   bool ring;          /* 0 or 1: the words of the log are used again, and so are the rows, whatever
                          `again` says */
+  uint64_t batch;     /* messages of one batch, at most: of a ring 1 to 64, and else 16. 0 says the
+                         most, which are 64 of a ring and 16 of another bus */
 } kioskbasil_sizes;
 
 /* What an answer to a turn of a sender says beside its code; 0 where that says nothing. */
@@ -225,7 +238,7 @@ typedef struct kioskbasil_heard {
 
 /* What a sender shows. */
 typedef struct kioskbasil_sender_shown {
-  uint64_t pending;     /* messages in its batch, at most 16 */
+  uint64_t pending;     /* messages in its batch, at most as many as that may have */
   uint64_t next_number; /* the number that its next message gets */
   uint64_t words;       /* the last length of the log that it has stored */
   uint64_t turns_left;  /* turns of its election, at most; 0 where none is begun */
@@ -296,8 +309,8 @@ void bus_c_free_receiver(kioskbasil_receiver *receiver);
 uint32_t bus_c_end(kioskbasil_receiver *receiver, uint64_t *log, size_t room,
                    kioskbasil_left *left);
 
-/* ---- what a sitting takes; sums of this header alone, which answer UINT64_MAX where 64 bits cannot
- * count it */
+/* ---- what a sitting takes of a bus that is no ring; sums of this header alone, which answer
+ * UINT64_MAX where 64 bits cannot count it */
 static inline uint64_t kioskbasil_plus(uint64_t a, uint64_t b) {
   return a > UINT64_MAX - b ? UINT64_MAX : a + b;
 }
@@ -307,7 +320,7 @@ static inline uint64_t kioskbasil_times(uint64_t a, uint64_t b) {
 }
 
 static inline uint64_t kioskbasil_batches(uint64_t messages) {
-  return messages / KIOSKBASIL_MOST_MESSAGES + (messages % KIOSKBASIL_MOST_MESSAGES != 0);
+  return messages / KIOSKBASIL_LOG_MESSAGES + (messages % KIOSKBASIL_LOG_MESSAGES != 0);
 }
 
 /* How many tenures a sitting takes in which each of so many senders sends so many messages, in
@@ -339,8 +352,8 @@ static inline uint64_t kioskbasil_room_to_close(uint64_t log_words, uint64_t sen
 /* Opens a bus of these sizes, with as many senders and receivers as there are handles, and fills
  * these in the order of their numbers. What a handle held is given up, without the turns of
  * kioskbasil_finish. All memory is taken here.
- * KIOSKBASIL_OK, or BAD_SENDERS, BAD_RECEIVERS, BAD_ROUNDS, BAD_ROWS, BAD_LOG_WORDS or NO_MEMORY,
- * the first whose cause holds, and then no handle is changed. */
+ * KIOSKBASIL_OK, or BAD_SENDERS, BAD_RECEIVERS, BAD_ROUNDS, BAD_ROWS, BAD_LOG_WORDS, BAD_BATCH,
+ * SHORT_RING or NO_MEMORY, the first whose cause holds, and then no handle is changed. */
 static inline uint32_t kioskbasil_open(const kioskbasil_sizes *sizes,
                                        kioskbasil_sender *senders, size_t sender_count,
                                        kioskbasil_receiver *receivers, size_t receiver_count) {
@@ -368,8 +381,8 @@ static inline uint32_t kioskbasil_open_ring(const kioskbasil_sizes *sizes,
  * neither. *left is only read, and may be used for more buses than one.
  * KIOSKBASIL_OK, or what kioskbasil_open refuses; where the sizes are good NOT_ENDED if left->ended
  * is false, else NUMBERS_USED if one of the 64 next numbers is 2^48 - 65,536 or more, or of a ring
- * 2^48 - 2^44 - 16 or more, else NO_MEMORY; the first whose cause holds, and then no handle is
- * changed.
+ * with batches of B messages 2^48 - B * (2^40 + 1) or more, else NO_MEMORY; the first whose cause
+ * holds, and then no handle is changed.
  * Nothing checks that kioskbasil_end filled *left: the numbers go on from left->next, whatever it
  * has. left->ended and each of left->gone have to be 0 or 1, and no handle may lie inside *left.
  * Who had left is there again. */
@@ -382,9 +395,9 @@ static inline uint32_t kioskbasil_open_after(const kioskbasil_sizes *sizes,
   return bus_c_open_after(sizes, left, senders, sender_count, receivers, receiver_count);
 }
 
-/* Appends a message of at most 56 bytes to the sender's batch of at most 16. Takes no step. A batch
- * comes into the order as one frame, with nothing of another sender in between. What is longer goes
- * by kioskbasil_put_long of examples/c/long.h, in a release kioskbasil_long.h.
+/* Appends a message of at most 56 bytes to the sender's batch. Takes no step. A batch comes into
+ * the order as one frame, with nothing of another sender in between. What is longer goes by
+ * kioskbasil_put_long of examples/c/long.h, in a release kioskbasil_long.h.
  * KIOSKBASIL_OK, and its number among the messages of this sender, from its base on, in *number
  * (which may be NULL); or PUT_CLOSED, PUT_BUSY, PUT_TOO_LONG or PUT_BATCH_FULL, the first whose
  * cause holds, and then nothing is changed. `bytes` may be NULL where `length` is 0. */
@@ -692,7 +705,7 @@ static inline const char *kioskbasil_text(uint32_t code) {
   case KIOSKBASIL_PUT_CLOSED: return "no message is taken: closed";
   case KIOSKBASIL_PUT_BUSY: return "no message is taken: the batch is on its way";
   case KIOSKBASIL_PUT_TOO_LONG: return "no message is taken: more than 56 bytes, of a long one 880";
-  case KIOSKBASIL_PUT_BATCH_FULL: return "no message is taken: more than 16 would wait";
+  case KIOSKBASIL_PUT_BATCH_FULL: return "no message is taken: more would wait than a batch has";
   case KIOSKBASIL_CLOSE_CLOSED: return "no close or leave is taken: closed";
   case KIOSKBASIL_CLOSE_BUSY: return "no close or leave is taken: the batch is on its way";
   case KIOSKBASIL_CLOSE_PENDING: return "no close or leave is taken: messages wait";
@@ -707,6 +720,9 @@ static inline const char *kioskbasil_text(uint32_t code) {
   case KIOSKBASIL_NEVER_FITS: return "the batch is longer than the log";
   case KIOSKBASIL_NO_SEAT: return "each number above the receiver's own was taken";
   case KIOSKBASIL_USED_HANDLE: return "the handle is not empty";
+  case KIOSKBASIL_BAD_BATCH: return "a batch has 1 to 64 messages, without a ring 16";
+  case KIOSKBASIL_SHORT_RING:
+    return "a ring shorter than its longest frame: one word, and eight a message";
   default: return "no code of this version";
   }
 }

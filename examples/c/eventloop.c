@@ -1,6 +1,7 @@
 /* An event loop of poll(2) with a bus among what it waits for: it sends the lines that come over a
    pipe, and prints the messages of the order, while another thread sends too. Once it has heard all
-   of them it closes. The loop waits in poll alone. The log is a ring of 16 words. */
+   of them it closes. The loop waits in poll alone. The log is a ring of 16 words, and a batch has
+   one message. */
 #include "kioskbasil.h"
 #include "waiting.h"
 #include <errno.h>
@@ -110,7 +111,7 @@ static void give_up(kioskbasil_sender *sender, kioskbasil_receiver *receiver) {
 }
 
 int main(void) {
-    kioskbasil_sizes sizes = {.rounds = 2, .rows = 8, .log_words = 16, .ring = true};
+    kioskbasil_sizes sizes = {.rounds = 2, .rows = 8, .log_words = 16, .ring = true, .batch = 1};
     kioskbasil_sender senders[2] = {KIOSKBASIL_NONE};
     kioskbasil_receiver receivers[1] = {KIOSKBASIL_NONE};
     kioskbasil_left left;

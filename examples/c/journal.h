@@ -60,9 +60,8 @@ enum {
 };
 
 enum {
-    JOURNAL_WORDS = 1 + KIOSKBASIL_MOST_MESSAGES * (1 + KIOSKBASIL_MOST_BYTES / 8), /* 129 */
-    JOURNAL_MOST_BATCH = 64, /* the most messages of a batch that a header may say */
-    JOURNAL_MOST_RECORD = 8 * (8 * JOURNAL_MOST_BATCH + 2),
+    JOURNAL_WORDS = 1 + KIOSKBASIL_MOST_MESSAGES * (1 + KIOSKBASIL_MOST_BYTES / 8), /* 513 */
+    JOURNAL_MOST_RECORD = 8 * (JOURNAL_WORDS + 1),
     JOURNAL_INPUT = 4 * JOURNAL_MOST_RECORD,
     JOURNAL_MOST_PATH = 4096,
     JOURNAL_MOST_TAIL = 64 /* behind a path while its file is made */
@@ -82,7 +81,7 @@ struct kioskbasil_frame {
     uint64_t place; /* of its first word in the log */
     uint32_t what;  /* KIOSKBASIL_ITEM; or LEAVE: its owner has left; or END: the order has ended */
     uint8_t owner;
-    size_t many; /* items: 1 to 16, and none of a leave or the end */
+    size_t many; /* items: 1 to 64, and none of a leave or the end */
     kioskbasil_item items[KIOSKBASIL_MOST_MESSAGES];
 };
 
@@ -98,7 +97,7 @@ struct kioskbasil_frames {
 /* What a journal begins with. */
 struct kioskbasil_journal_header {
     size_t senders;                          /* 1 to 64 */
-    uint64_t most;                           /* messages of a batch, 1 to 64; here 16 */
+    uint64_t most;                           /* messages of a batch, 1 to 64; here 64 */
     uint64_t place;                          /* in the log, of the file's first word; below 2^63 */
     uint64_t first[KIOSKBASIL_MOST_SENDERS]; /* the first number of each sender */
 };
@@ -138,7 +137,7 @@ struct kioskbasil_journal {
     int64_t every, synced_at; /* nanoseconds */
     struct kioskbasil_journal_log log;
     struct kioskbasil_safe written;
-    uint8_t record[8 * (JOURNAL_WORDS + 1)];
+    uint8_t record[JOURNAL_MOST_RECORD];
     pthread_mutex_t lock;
     pthread_cond_t changed;
     struct kioskbasil_safe safe;
@@ -178,8 +177,8 @@ static inline uint64_t journal_data(const kioskbasil_item *item, size_t at) {
     return word;
 }
 
-/* Writes the words of a frame, as they stand in the log, and gives how many they are: at most 129.
-   Its items are 16 at most, of 56 bytes at most. */
+/* Writes the words of a frame, as they stand in the log, and gives how many they are: at most 513.
+   Its items are 64 at most, of 56 bytes at most. */
 static inline size_t kioskbasil_frame_words(const struct kioskbasil_frame *frame,
                                             uint64_t *words) {
     size_t many = 1;
@@ -411,7 +410,8 @@ static inline uint32_t kioskbasil_journal_header_after(struct kioskbasil_journal
 
 static inline bool journal_is_header(const struct kioskbasil_journal_header *header) {
     return header->senders >= 1 && header->senders <= KIOSKBASIL_MOST_SENDERS &&
-           header->most >= 1 && header->most <= JOURNAL_MOST_BATCH && header->place >> 63 == 0;
+           header->most >= 1 && header->most <= KIOSKBASIL_MOST_MESSAGES &&
+           header->place >> 63 == 0;
 }
 
 /* Writes a header, and gives how many bytes it has. */

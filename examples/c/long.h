@@ -3,7 +3,8 @@
    it is kioskbasil_long.h.
 
    A piece is a message of the bus. Its first byte says how many pieces follow it, and behind that
-   it has 55 bytes, the last piece at most 55. Who sends long messages to a bus sends no others. */
+   it has 55 bytes, the last piece at most 55. Who sends long messages to a bus sends no others. A
+   ring for them has batches of 16 messages or more. */
 #ifndef KIOSKBASIL_LONG_H
 #define KIOSKBASIL_LONG_H
 
@@ -11,7 +12,8 @@
 
 enum {
     KIOSKBASIL_PIECE_BYTES = KIOSKBASIL_MOST_BYTES - 1,
-    KIOSKBASIL_MOST_LONG_BYTES = KIOSKBASIL_MOST_MESSAGES * KIOSKBASIL_PIECE_BYTES, /* 880 */
+    KIOSKBASIL_MOST_PIECES = 16,
+    KIOSKBASIL_MOST_LONG_BYTES = KIOSKBASIL_MOST_PIECES * KIOSKBASIL_PIECE_BYTES, /* 880 */
     KIOSKBASIL_LONG_ITEMS = 32 /* how many items cross the border at once */
 };
 
@@ -36,12 +38,6 @@ static inline size_t long_pieces(size_t length) {
     return length ? 1 + (length - 1) / KIOSKBASIL_PIECE_BYTES : 1;
 }
 
-/* How many words of a frame they take. */
-static inline uint64_t long_words(size_t length) {
-    size_t before = long_pieces(length) - 1, last = length - before * KIOSKBASIL_PIECE_BYTES;
-    return before * (1 + KIOSKBASIL_MOST_BYTES / 8) + 1 + (1 + last + 7) / 8;
-}
-
 /* Puts the pieces of a message of at most 880 bytes, for which the batch has room. A put takes no
    step, so where the first one is OK all are. */
 static inline uint32_t long_put_pieces(kioskbasil_sender *sender, const void *bytes, size_t length,
@@ -61,11 +57,15 @@ static inline uint32_t long_put_pieces(kioskbasil_sender *sender, const void *by
 }
 
 /* Puts a message of at most 880 bytes, and gives the number of its last piece in *number (which may
-   be NULL). All pieces are put, or none: so they come into the order in one frame. All 16 pieces of
-   880 bytes take 129 words of the log: give a ring so many. Takes no step.
+   be NULL). Where a batch of the bus may have 16 messages or more, all pieces are put, or none: so
+   they come into the order in one frame. All 16 pieces of 880 bytes take 129 words of the log: give
+   one that is no ring so many. Takes no step.
    KIOSKBASIL_OK, or PUT_CLOSED, PUT_BUSY, PUT_TOO_LONG (more than 880 bytes) or PUT_BATCH_FULL (the
    pieces and what waits are more than 16 messages: send the batch first), the first whose cause
-   holds; or EMPTY_HANDLE or NULL. Unless it is OK nothing is changed. */
+   holds; or EMPTY_HANDLE or NULL. Unless it is OK nothing is changed.
+   Of a ring with fewer than 16 messages in a batch it does not know: there PUT_BATCH_FULL may come
+   behind pieces that were put. So a caller sees to it before that long_pieces(length) and what
+   waits are not more than a batch may have. */
 static inline uint32_t kioskbasil_put_long(kioskbasil_sender *sender, const void *bytes,
                                            size_t length, uint64_t *number) {
     static const uint8_t none[KIOSKBASIL_MOST_BYTES + 1] = {0};
@@ -74,7 +74,7 @@ static inline uint32_t kioskbasil_put_long(kioskbasil_sender *sender, const void
     if (code != KIOSKBASIL_OK) return code;
     if (!bytes && length) return KIOSKBASIL_NULL;
     if (length <= KIOSKBASIL_MOST_LONG_BYTES &&
-        shown.pending + long_pieces(length) <= KIOSKBASIL_MOST_MESSAGES)
+        shown.pending + long_pieces(length) <= KIOSKBASIL_MOST_PIECES)
         return long_put_pieces(sender, bytes, length, number);
     code = kioskbasil_put(sender, none, sizeof none, NULL);
     if (code != KIOSKBASIL_PUT_TOO_LONG || length > KIOSKBASIL_MOST_LONG_BYTES) return code;
@@ -89,7 +89,7 @@ static inline uint32_t long_begun(const struct kioskbasil_long *it, size_t *piec
     const kioskbasil_item *first = &it->items[it->given];
     size_t there = it->many - it->given, all;
     if (!there) return KIOSKBASIL_EMPTY;
-    if (!first->length || first->bytes[0] >= KIOSKBASIL_MOST_MESSAGES) return KIOSKBASIL_NOT_LONG;
+    if (!first->length || first->bytes[0] >= KIOSKBASIL_MOST_PIECES) return KIOSKBASIL_NOT_LONG;
     all = 1 + (size_t)first->bytes[0];
     for (size_t i = 0; i < all && i < there; i++) {
         const kioskbasil_item *item = &first[i];

@@ -22,9 +22,8 @@
 #include "long.h"
 
 /* What a call answers beside KIOSKBASIL_OK, KIOSKBASIL_CLOSED (the order has ended, or this worker
-   has left or has begun to), KIOSKBASIL_SPENT, KIOSKBASIL_PUT_TOO_LONG (more than 880 bytes),
-   KIOSKBASIL_NEVER_FITS (the operation is longer than the log; one of 129 words has room for each)
-   and KIOSKBASIL_EMPTY_HANDLE. */
+   has left or has begun to), KIOSKBASIL_SPENT, KIOSKBASIL_PUT_TOO_LONG (more than 880 bytes) and
+   KIOSKBASIL_EMPTY_HANDLE. */
 enum {
     REPLICA_STOPPED = 96, /* told to stop, or its time is over; what was put waits still */
     REPLICA_MISSING = 97  /* the same of leave and finish, before the worker `missing` has left */
@@ -40,7 +39,6 @@ typedef void replica_apply(void *state, uint32_t from, const uint8_t *operation,
 struct kioskbasil_replicas {
     struct bell bell; /* whoever makes a go_on say no rings it */
     size_t workers;
-    uint64_t log_words;
     uint8_t before[128]; /* `published` has cache lines of its own */
     uint64_t published;  /* a length that the log has had */
     uint8_t behind[128];
@@ -57,7 +55,6 @@ struct kioskbasil_replica {
     struct kioskbasil_long heard; /* the operation that was applied last, and what is at hand */
     uint64_t read, passed; /* words that it had read, and passed, when it last asked the bus */
     uint64_t seed;
-    uint64_t words; /* of the frame that waits */
     uint32_t number;
     uint32_t waits;   /* how many messages wait */
     uint32_t missing; /* after REPLICA_MISSING: the first worker that has not left; it may be this
@@ -163,28 +160,20 @@ static inline bool replica_has_sent(const struct kioskbasil_replica *r) {
 }
 
 /* Puts an operation into the batch: OK, or IDLE where that is to be sent first, since it has not so
-   many messages left, or its frame would be longer than the log.
+   many messages left.
 
    No worker fails or leaves between two pieces: a put takes no turn, and the batch is one frame of
    the order. All pieces stand in it, or none does. */
 static inline uint32_t replica_put(struct kioskbasil_replica *r, const void *operation,
                                    size_t length, uint64_t *number) {
     uint32_t code, pieces;
-    uint64_t words;
     if (!r->sender.live) return KIOSKBASIL_EMPTY_HANDLE;
     if (!operation && length) return KIOSKBASIL_NULL;
     if (length > KIOSKBASIL_MOST_LONG_BYTES) return KIOSKBASIL_PUT_TOO_LONG;
     pieces = (uint32_t)long_pieces(length);
-    words = long_words(length);
-    if (1 + words > r->shared->log_words) return KIOSKBASIL_NEVER_FITS;
-    if (r->waits && (r->waits + pieces > KIOSKBASIL_MOST_MESSAGES ||
-                     r->words + words > r->shared->log_words))
-        return KIOSKBASIL_IDLE;
+    if (r->waits + pieces > KIOSKBASIL_MOST_MESSAGES) return KIOSKBASIL_IDLE;
     code = long_put_pieces(&r->sender, operation, length, number);
-    if (code == KIOSKBASIL_OK) {
-        r->waits += pieces;
-        r->words += words;
-    }
+    if (code == KIOSKBASIL_OK) r->waits += pieces;
     return code == KIOSKBASIL_PUT_CLOSED ? (uint32_t)KIOSKBASIL_CLOSED : code;
 }
 
@@ -204,7 +193,6 @@ static inline uint32_t replica_send(struct kioskbasil_replica *r, bool *moved) {
     switch (code) {
     case KIOSKBASIL_DELIVERED:
         r->waits = 0;
-        r->words = 1;
         replica_publish(r->shared, replica_sent_up_to(r));
         *moved = true;
         return KIOSKBASIL_OK;
@@ -357,7 +345,7 @@ static inline uint32_t replica_submit_by(struct kioskbasil_replica *r, const voi
    has no room for the next one. What it answers nobody is told. After REPLICA_STOPPED it is not
    put, so the call may be repeated.
 
-   A batch has room for 16 operations of up to 55 bytes; a longer one counts for each 55 bytes
+   A batch has room for 64 operations of up to 55 bytes; a longer one counts for each 55 bytes
    begun. Numbers rise by as much: an operation has that of its last piece. */
 static inline uint32_t replica_submit_while(struct kioskbasil_replica *r, const void *operation,
                                             size_t length, uint64_t *number,
@@ -433,12 +421,13 @@ static inline uint32_t replica_execute(struct kioskbasil_replica *r, const void 
 /* ---- the begin and the end */
 
 /* Opens a bus with a replica for each worker, in the order of their numbers, and the callback of
-   all. Its log is a ring, whatever `sizes` says. Set the `state` of each then, to equal ones.
+   all. Its log is a ring with batches of 64 messages, whatever `sizes` says of these. Set the
+   `state` of each then, to equal ones.
    KIOSKBASIL_OK, or what kioskbasil_open answers.
 
    Usual sizes are {.rounds = 2, .rows = 8, .log_words = 32768}. There are 1 to 8 rounds, 2 to 8
-   rows and 16 to 65,536 words. A log of 129 words or more takes any operation. `{0}` is refused, as
-   KIOSKBASIL_BAD_ROUNDS: a 0 stands for no usual size. */
+   rows and 513 to 65,536 words. `{0}` is refused, as KIOSKBASIL_BAD_ROUNDS: a 0 stands for no usual
+   size. */
 static inline uint32_t replicas_open(struct kioskbasil_replicas *shared,
                                      const kioskbasil_sizes *sizes,
                                      struct kioskbasil_replica *replicas, size_t workers,
@@ -449,6 +438,7 @@ static inline uint32_t replicas_open(struct kioskbasil_replicas *shared,
     uint32_t code;
     memset(shared, 0, sizeof *shared);
     ring.ring = true;
+    ring.batch = KIOSKBASIL_MOST_MESSAGES;
     if (workers > KIOSKBASIL_MOST_RECEIVERS) return KIOSKBASIL_BAD_RECEIVERS;
     code = kioskbasil_open(&ring, senders, workers, receivers, workers);
     if (code != KIOSKBASIL_OK) return code;
@@ -456,7 +446,6 @@ static inline uint32_t replicas_open(struct kioskbasil_replicas *shared,
     pthread_cond_init(&shared->bell.rang, NULL);
     shared->bell.event = -1;
     shared->workers = workers;
-    shared->log_words = ring.log_words;
     for (size_t i = 0; i < workers; i++) {
         struct kioskbasil_replica *r = &replicas[i];
         memset(r, 0, sizeof *r);
@@ -465,7 +454,6 @@ static inline uint32_t replicas_open(struct kioskbasil_replicas *shared,
         r->apply = apply;
         r->shared = shared;
         r->seed = UINT64_C(0x9e3779b97f4a7c15) * (i + 1);
-        r->words = 1;
         r->number = (uint32_t)i;
     }
     return KIOSKBASIL_OK;
@@ -556,7 +544,6 @@ static inline const char *replica_text(uint32_t code) {
     if (code == REPLICA_MISSING) return "a worker has not left";
     if (code == KIOSKBASIL_CLOSED) return "the order has ended, or this worker has left it";
     if (code == KIOSKBASIL_PUT_TOO_LONG) return "an operation of more than 880 bytes";
-    if (code == KIOSKBASIL_NEVER_FITS) return "an operation that is longer than the log";
     return kioskbasil_text(code);
 }
 #endif

@@ -28,4 +28,5 @@ IsOutOfRange senders receivers messages bytes repetitions rounds (refusal.Count 
 IsOutOfRange senders receivers messages bytes repetitions rounds (refusal.NotNumber word) = ⊥
 IsOutOfRange senders receivers messages bytes repetitions rounds (refusal.OutOfRange word) =
     IsOut senders receivers messages bytes repetitions rounds word
-IsOutOfRange senders receivers messages bytes repetitions rounds refusal.Ring = ⊥
+IsOutOfRange senders receivers messages bytes repetitions rounds (refusal.Ring least) = ⊥
+IsOutOfRange senders receivers messages bytes repetitions rounds refusal.Batch = ⊥

@@ -3,15 +3,15 @@
 ghost use Rattle.std.specs.Prelude.{◌≡◌, ◌-◌, ◌*◌, ◌<◌, ◌≤◌, ◌⊎◌, IfOk, IfErr};
 ghost use Rattle.std.specs.Prelude.{None, OnOk, OnErr};
 ghost use Rattle.bus_receiver.specs.Sizes.{batches_of, tenures_of, words_of};
-ghost use Rattle.bus_register.specs.declared.limits.TheConstants.{MOST_MESSAGES, MOST_ROUNDS};
+ghost use Rattle.bus_register.specs.declared.limits.TheConstants.{LOG_MESSAGES, MOST_ROUNDS};
 ghost use Rattle.bus_run.specs.declared.limits.TheConstants.{MOST_RECEIVE_WORKERS};
 ghost use Rattle.bus_run.specs.declared.limits.TheConstants.{MOST_SEND_WORKERS};
 ghost use Rattle.bench_rounds.specs.declared.needs.TheConstants.{MOST_TENURES};
 ghost use Rattle.bench_rounds.specs.declared.request.TheConstants.{MOST_REPETITIONS};
 ghost use Rattle.bench_rounds.specs.Sizes.{bytes_of};
 
-use crate::request::{Request, Size};
-use bus_register::limits::{MOST_LOG_WORDS, MOST_MESSAGES};
+use crate::request::{Request, Ring, Size};
+use bus_register::limits::{LOG_MESSAGES, MOST_LOG_WORDS};
 use std::fmt;
 
 /// Tenures of a round: at most 256.
@@ -59,18 +59,18 @@ pub struct Load {
     pub repetitions: u64,
     /// Of each binary decision.
     pub rounds: u64,
-    /// So many words of the log, where they are used again.
-    pub ring: Option<u64>,
+    /// The log, where its words are used again.
+    pub ring: Option<Ring>,
     ghost few_senders: { senders ≤ MOST_SEND_WORKERS },
     ghost few_receivers: { receivers ≤ MOST_RECEIVE_WORKERS },
-    ghost few_items: { senders * messages ≤ (MOST_TENURES - 1) * MOST_MESSAGES },
+    ghost few_items: { senders * messages ≤ (MOST_TENURES - 1) * LOG_MESSAGES },
     ghost few_repetitions: { repetitions ≤ MOST_REPETITIONS },
     ghost some_rounds: { (1 ≤ rounds) × (rounds ≤ MOST_ROUNDS) },
 }
 
 impl Load {
-    /// The same over a ring of so many words, or over a log that is none.
-    pub fn over(self, ring: Option<u64>) -> Load
+    /// The same over a ring, or over a log that is none.
+    pub fn over(self, ring: Option<Ring>) -> Load
         ensures ring { result.ring ≡ ring }
         ensures items { result.senders * result.messages ≡ self.senders * self.messages }
     {
@@ -104,11 +104,11 @@ impl Load {
 }
 
 impl Request {
-    /// How many batches of at most 16 a sender makes.
+    /// How many batches of at most 16 a sender makes, which are the most without a ring.
     fn batches(self) -> u128
         ensures { result ≡ batches_of self.messages }
     {
-        (u128::from(self.messages) + (MOST_MESSAGES as u128 - 1)) / MOST_MESSAGES as u128
+        (u128::from(self.messages) + (LOG_MESSAGES as u128 - 1)) / LOG_MESSAGES as u128
     }
 
     /// How many tenures a round takes: those that `tenures_needed` counts, also past 64 bits.

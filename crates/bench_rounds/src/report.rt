@@ -5,7 +5,7 @@ ghost use Rattle.std.specs.Prelude.{length, slice_index, IfSome, MatchOption, Co
 
 use crate::faults::Fault;
 use crate::needs::Load;
-use crate::request::{MOST_REPETITIONS, parse_line};
+use crate::request::{MOST_REPETITIONS, Ring, parse_line};
 use crate::rounds::{Times, round};
 use std::alloc::Global;
 use std::io::Input;
@@ -39,12 +39,12 @@ pub fn bench<R: Print + Threads + Wait + Clock + Sync>(
     }
 }
 
-/// Runs a round for each line of the input, over a ring of so many words where there is to be one,
-/// and prints its nanoseconds from the gate's opening.
+/// Runs a round for each line of the input, over this ring where there is to be one, and prints its
+/// nanoseconds from the gate's opening.
 pub fn serve<R: Input + Print + Threads + Wait + Clock + Sync>(
     rt: &R,
     alloc: Global,
-    ring: Option<u64>,
+    ring: Option<Ring>,
 ) -> Result<(), Fault> {
     let mut seed: u64 = 0;
     for line in rt.lines(alloc) {

@@ -5,19 +5,19 @@ ghost use Rattle.std.specs.Prelude.{None, IfSome, IfOk, IfErr, OnOk};
 ghost use Rattle.std.specs.Option.{SomeIff};
 ghost use Rattle.std.specs.Str.Parse.{IsNumeral, digits_value};
 ghost use Rattle.bus_register.specs.declared.limits.TheConstants.{MOST_LOG_WORDS, MOST_ROUNDS};
+ghost use Rattle.bus_register.specs.declared.limits.TheConstants.{MOST_MESSAGES};
 ghost use Rattle.bus_run.specs.declared.limits.TheConstants.{MOST_RECEIVE_WORKERS};
 ghost use Rattle.bus_run.specs.declared.limits.TheConstants.{MOST_SEND_WORKERS};
 ghost use Rattle.bench_rounds.specs.declared.request.TheConstants.{MOST_REPETITIONS};
-ghost use Rattle.bench_rounds.specs.declared.request.TheConstants.{LEAST_RING_WORDS};
-ghost use Rattle.bench_rounds.specs.Sizes.{bytes_of};
+ghost use Rattle.bench_rounds.specs.Sizes.{bytes_of, least_ring_words as spec_least};
 
-use bus_register::limits::{MOST_FRAME_WORDS, MOST_LOG_WORDS, MOST_ROUNDS};
+use bus_register::limits::{MOST_LOG_WORDS, MOST_MESSAGE_WORDS, MOST_MESSAGES, MOST_ROUNDS};
 use bus_run::limits::{MOST_RECEIVE_WORKERS, MOST_SEND_WORKERS, ROUNDS};
 use std::fmt;
 
 /// How the program is called.
 pub const USAGE: &str = "usage: bus_bench SENDERS RECEIVERS MESSAGES BYTES REPETITIONS [ROUNDS]
-       bus_bench lines [ring [WORDS]]
+       bus_bench lines [ring [WORDS [BATCH]]]
   SENDERS      1 to 8
   RECEIVERS    1 to 8
   MESSAGES     of each sender: 1 or more
@@ -26,11 +26,9 @@ pub const USAGE: &str = "usage: bus_bench SENDERS RECEIVERS MESSAGES BYTES REPET
   ROUNDS       of each decision: 1 to 8, and 4 if left out
 With `lines` it runs a bus for each line `SENDERS RECEIVERS MESSAGES BYTES [ROUNDS]` of standard
 input, and prints its nanoseconds, from when all threads are up to the last item. With `ring` the
-words of its log are used again. It has WORDS of them, 129 to 65536, and 65536 if left out.
+words of its log are used again. It has WORDS of them, up to 65536, and 65536 if left out. A batch
+has at most BATCH messages, 1 to 64, and 64 if left out. WORDS is at least 8 times that and one.
 ";
-
-/// Words of a ring: at least 129, so that each batch fits.
-pub const LEAST_RING_WORDS: u64 = MOST_FRAME_WORDS as u64;
 
 /// Rounds whose times are printed: at most 10,000.
 pub const MOST_REPETITIONS: u64 = 10_000;
@@ -68,8 +66,10 @@ pub enum Refusal {
     /// It is not decimal digits alone, or their number passes `u64::MAX`.
     NotNumber(Field),
     OutOfRange(Field),
-    /// The words of a ring are no decimal number of its range.
-    Ring,
+    /// The words of a ring are no decimal number from this one to 65,536.
+    Ring(u64),
+    /// The messages of a batch are no decimal number from 1 to 64.
+    Batch,
 }
 
 impl fmt::Display for Refusal {
@@ -79,7 +79,10 @@ impl fmt::Display for Refusal {
             Refusal::Count(given) => write!(f, "{given} words are given"),
             Refusal::NotNumber(field) => { write!(f, "{field} is not a decimal number below 2^64") }
             Refusal::OutOfRange(field) => write!(f, "{field} is out of range"),
-            Refusal::Ring => write!(f, "WORDS is not a decimal number from 129 to 65536"),
+            Refusal::Ring(least) => {
+                write!(f, "WORDS is not a decimal number from {least} to 65536")
+            }
+            Refusal::Batch => write!(f, "BATCH is not a decimal number from 1 to 64"),
         }
     }
 }
@@ -206,24 +209,68 @@ pub fn parse(words: &[String]) -> Result<Request, Refusal>
     )
 }
 
-/// What the words behind `lines` ask for: a ring of so many words, or none.
-pub fn parse_ring(words: &[String]) -> Result<Option<u64>, Refusal>
+/// A log whose words are used again. Each batch fits.
+#[derive(Clone, Copy, Debug, PartialEq, Eq)]
+pub struct Ring {
+    pub words: u64,
+    /// Messages of a batch: at most so many.
+    pub batch: u64,
+    ghost some_messages: { 1 ≤ batch },
+    ghost few_messages: { batch ≤ MOST_MESSAGES },
+    ghost holds_batches: { spec_least batch ≤ words },
+    ghost few_words: { words ≤ MOST_LOG_WORDS },
+}
+
+/// What the words behind `lines` ask for: a ring, or none.
+pub fn parse_ring(words: &[String]) -> Result<Option<Ring>, Refusal>
     ensures { IfOk result (λ ring. IfSome ring
-        (λ words. (LEAST_RING_WORDS ≤ words) × (words ≤ MOST_LOG_WORDS))) }
+        (λ ring. (spec_least ring.batch ≤ ring.words) × (ring.words ≤ MOST_LOG_WORDS))) }
 {
     let Some(word) = words.get(2) else {
         return Ok(None);
     };
-    if word.as_str() != "ring" || words.len() > 4 {
+    if word.as_str() != "ring" || words.len() > 5 {
         return Err(Refusal::Count(words.len().saturating_sub(1)));
     }
-    let Some(many) = words.get(3) else {
-        return Ok(Some(MOST_LOG_WORDS));
+    let batch = match words.get(4) {
+        Some(batch) => batch_of(batch.as_str())?,
+        None => MOST_MESSAGES as u64,
     };
-    match number_of(many.as_str()) {
-        Some(many) if many >= LEAST_RING_WORDS && many <= MOST_LOG_WORDS => Ok(Some(many)),
-        _ => Err(Refusal::Ring),
+    let words = match words.get(3) {
+        Some(words) => ring_words(words.as_str(), batch)?,
+        None => MOST_LOG_WORDS,
+    };
+    Ok(Some(Ring { words, batch }))
+}
+
+/// How many messages a batch of a ring has at most, where a word says so.
+fn batch_of(word: &str) -> Result<u64, Refusal>
+    ensures { IfOk result (λ batch. (1 ≤ batch) × (batch ≤ MOST_MESSAGES)) }
+{
+    match number_of(word) {
+        Some(batch) if batch >= 1 && batch <= MOST_MESSAGES as u64 => Ok(batch),
+        _ => Err(Refusal::Batch),
     }
+}
+
+/// How many words a ring has with such batches, where a word says so.
+fn ring_words(word: &str, batch: u64) -> Result<u64, Refusal>
+    requires { batch ≤ MOST_MESSAGES }
+    ensures { IfOk result (λ words. (spec_least batch ≤ words) × (words ≤ MOST_LOG_WORDS)) }
+{
+    let least = least_ring_words(batch);
+    match number_of(word) {
+        Some(many) if many >= least && many <= MOST_LOG_WORDS => Ok(many),
+        _ => Err(Refusal::Ring(least)),
+    }
+}
+
+/// Words of a ring with such batches: at least so many, which the longest of them takes.
+fn least_ring_words(batch: u64) -> u64
+    requires { batch ≤ MOST_MESSAGES }
+    ensures { result ≡ spec_least batch }
+{
+    1 + MOST_MESSAGE_WORDS * batch
 }
 
 /// The measurement without repetition that a line asks for, by its words.

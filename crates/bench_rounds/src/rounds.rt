@@ -9,7 +9,7 @@ use crate::needs::Load;
 use crate::spawning::{Worked, fault_of, spawn_round, workers_of};
 use crate::workers::RoundReceiver;
 use bus_pageslot::OfBus;
-use bus_register::limits::MOST_LOG_WORDS;
+use bus_register::limits::{LOG_MESSAGES, MOST_LOG_WORDS};
 use bus_run::buses::{Bus, Sender, Tap, TheBus};
 use bus_run::limits::ROWS;
 use bus_world::Shape;
@@ -30,12 +30,17 @@ pub struct Times {
 
 /// The bus of a round.
 fn shape_of(load: Load) -> Shape {
+    let (log_words, batch) = match load.ring {
+        Some(ring) => (ring.words, ring.batch),
+        None => (MOST_LOG_WORDS, LOG_MESSAGES as u64),
+    };
     Shape {
         senders: load.senders,
         receivers: load.receivers,
         rounds: load.rounds,
         rows: ROWS,
-        log_words: load.ring.unwrap_or(MOST_LOG_WORDS),
+        log_words,
+        batch,
     }
 }
 

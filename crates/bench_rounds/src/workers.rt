@@ -12,7 +12,7 @@ use bus_batch::Item;
 use bus_pageslot::{NeverFits, OfBus};
 use bus_receiver::{Found, Heard};
 use bus_register::SenderNo;
-use bus_register::limits::{MOST_BYTES, MOST_MESSAGES};
+use bus_register::limits::MOST_BYTES;
 use bus_run::buses::{Receiver, Sender, Tap, TheBus};
 use bus_run::spawning::Work;
 use bus_run::workers::generator;
@@ -195,11 +195,12 @@ impl<B: OfBus, W: Wait> SendRound<'_, B, W> {
     /// Sends the numbers below `load.messages`, a batch at a time, or until the round was given up.
     fn send_batches(&self, send_worker: &mut RoundSender<B>) -> Result<(), Fault> {
         let messages = self.load.messages;
-        for first in (0..messages).step_by(MOST_MESSAGES) {
+        let most = send_worker.sender.batch_limit();
+        for first in (0..messages).step_by(most as usize) {
             if self.gate.is_given_up() {
                 return Ok(());
             }
-            let end = messages.min(first.saturating_add(MOST_MESSAGES as u64));
+            let end = messages.min(first.saturating_add(most));
             put_all(send_worker, first, end, self.load.size.bytes())?;
             let Some(turn) = self.send_batch(send_worker) else {
                 return Ok(());

@@ -4,7 +4,7 @@
 use crate::storms::{Load, SHAPES, Sitting, Tale, receivers_of, senders_of, sit_on};
 use crate::turn_receivers::MOST_ITEMS;
 use bus_receiver::{LEAST_ROWS_AGAIN, MOST_ROWS, Page, Shape};
-use bus_register::limits::{MOST_MESSAGES, MOST_RECEIVERS};
+use bus_register::limits::{LOG_MESSAGES, MOST_MESSAGES, MOST_RECEIVERS};
 use bus_run::buses::Bus;
 use rand_core::Rng;
 use rand_pcg::Pcg32;
@@ -19,17 +19,20 @@ const SITTINGS: u64 = 4;
 /// Of 32 shapes that of the long runs.
 const LONG_SHAPE: u64 = 9;
 
-/// A sender puts no more messages at once.
-const MOST_BATCH: u32 = MOST_MESSAGES as u32;
+/// A sender puts no more messages at once, where the log is no ring.
+const LOG_BATCH: u32 = LOG_MESSAGES as u32;
 
 /// Words of the log of a sitting that has words for all.
 const LOG_WORDS: u64 = 16_384;
 
-/// Words of a ring: at least so many. A frame has at most 33 of them, as messages have 8 bytes.
+/// Words of a ring: at least so many.
 const LEAST_RING_WORDS: u64 = 64;
 
 /// Words of a ring: at most so many.
 const MOST_RING_WORDS: u64 = 4_096;
+
+/// Items of a ring: no more than so many full batches have.
+const MOST_BATCHES: u64 = 256;
 
 /// A run under this seed, in at most so many threads, over 2 to 8 rows that are used again: its
 /// senders have at most 31 messages each. `SHAPES` seeds in a row have all shapes. In two of these
@@ -60,6 +63,7 @@ pub fn run<R: Threads + Clock + Sync>(
             None if is_scarce => 128,
             None => LOG_WORDS,
         },
+        batch: batch_of(load),
     };
     let is_chain = load.is_calm && dice.next_u32() % 2 == 0;
     let made = if load.ring.is_some() {
@@ -85,7 +89,7 @@ fn first_load(seed: u64, hands: u64, is_long: bool, dice: &mut Pcg32) -> Load {
         hands: hands.max(1),
         is_calm: dice.next_u32() % 4 == 0,
         leavers: 0,
-        batch: if is_long { 1 } else { MOST_BATCH },
+        batch: if is_long { 1 } else { LOG_BATCH },
         ring: None,
         spares: 0,
         after: None,
@@ -116,12 +120,34 @@ fn some_with_ring(load: Load, dice: &mut Pcg32) -> Load {
     let words = LEAST_RING_WORDS + u64::from(dice.next_u32() % more);
     let words = words.min(MOST_RING_WORDS);
     let times = 1 + u64::from(dice.next_u32() % 8);
+    let batch = some_batch(words, dice);
     let items = (times * words / 2).min(MOST_ITEMS as u64);
+    let items = items.min(MOST_BATCHES * u64::from(batch));
     Load {
         messages: items / load.senders.max(1),
+        batch,
         ring: Some(words),
         spares: some_spares(load.receivers, dice),
         ..load
+    }
+}
+
+/// How many messages a batch of a ring of so many words has at most: in one ring of two as many as
+/// fit, and else 1 to that. Each has two words, as messages have 8 bytes, and its frame one more.
+fn some_batch(words: u64, dice: &mut Pcg32) -> u32 {
+    let most = (MOST_MESSAGES as u64).min(words.saturating_sub(1) / 2) as u32;
+    if dice.next_u32() % 2 == 0 {
+        most
+    } else {
+        1 + dice.next_u32() % most.max(1)
+    }
+}
+
+/// How many messages a batch of the bus of this load has at most.
+fn batch_of(load: Load) -> u64 {
+    match load.ring {
+        Some(_) => u64::from(load.batch),
+        None => LOG_MESSAGES as u64,
     }
 }
 
@@ -193,6 +219,7 @@ fn sit_after<R: Threads + Clock + Sync>(
         rounds: 1 + u64::from(dice.next_u32() % 4),
         rows,
         log_words: load.ring.unwrap_or(LOG_WORDS),
+        batch: batch_of(load),
     };
     let made = if load.ring.is_some() {
         Bus::ring(alloc, shape, Some(&page))?
@@ -223,7 +250,7 @@ fn next_load(load: Load, page: Page, is_again: bool, dice: &mut Pcg32) -> Load {
     let most = (MOST_ROWS as u64 - 1).saturating_sub(next.leavers) / senders.max(1);
     Load {
         messages: if is_again { few } else { few.min(most) },
-        batch: if is_single { 1 } else { MOST_BATCH },
+        batch: if is_single { 1 } else { LOG_BATCH },
         ring: None,
         spares: 0,
         after: Some(page),

@@ -7,7 +7,7 @@ use crate::send_workers::{TurnSender, turn_senders_of};
 use bus_pageslot::OfBus;
 use bus_receiver::{MOST_ROWS_AGAIN, Shape};
 use bus_register::Kind;
-use bus_register::limits::MOST_MESSAGES;
+use bus_register::limits::LOG_MESSAGES;
 use bus_run::buses::{Bus, Sender, Tap, TheBus};
 use bus_run::workers::{ReceiveWorker, receive_workers_of};
 use rand_core::Rng;
@@ -129,6 +129,7 @@ pub fn turns_of<R: Clock>(
             rounds: 1 + bus % 4,
             rows: MOST_ROWS_AGAIN as u64,
             log_words: 16_384,
+            batch: LOG_MESSAGES as u64,
         };
         let made = Bus::cyclic(alloc, shape, None)?;
         take_turns::<Brand, R>(rt, alloc, made, Pcg32::new(bus, senders), &mut turns)?;
@@ -174,7 +175,7 @@ fn take_turns<B: OfBus, R: Clock>(
 /// Puts as many messages as its batch takes. Says whether one was taken.
 fn fill<B: OfBus>(send_worker: &mut TurnSender<B>) -> bool {
     let mut is_taken = false;
-    for _ in 0..MOST_MESSAGES {
+    for _ in 0..LOG_MESSAGES {
         is_taken |= send_worker.put();
     }
     is_taken

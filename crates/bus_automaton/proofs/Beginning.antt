@@ -24,6 +24,7 @@ use Rattle.bus_machine.specs.Promise.{HasRows}
 use Rattle.bus_machine.specs.Turning.{AreNewSenders}
 use Rattle.bus_automaton.specs.Lawful.{Opens}
 use Rattle.bus_automaton.specs.Processes.{IsCounted}
+use Rattle.bus_register.specs.declared.limits.TheConstants.{MOST_MESSAGES}
 use Rattle.bus_register.specs.Private.TableLaws.{some_or_none, here_not}
 use Rattle.bus_tenure.specs.Core.{Election, Layout}
 use Rattle.std.proofs.lemmas.Bool.{cases_lt}
@@ -95,7 +96,7 @@ listener x reuse r = record {
   gone = false;
   known = 0;
   place = 0;
-  frames = reading 16 x.senders 0 (replicate 256 false) Between [];
+  frames = reading MOST_MESSAGES x.senders 0 (replicate 256 false) Between [];
   ended = false;
 }
 
@@ -148,7 +149,7 @@ is_new x reuse r = record {
   known = refl;
   place = refl;
   going = refl;
-  read = reads_none 16 x.senders (replicate 256 false) [] refl refl;
+  read = reads_none MOST_MESSAGES x.senders (replicate 256 false) [] refl refl;
   passed_is = refl;
   unpassed = refl;
   stays = refl;
@@ -165,7 +166,7 @@ passed_none x reuse r = refl
 
 -- the numbers of messages begin far below their range
 counted : {E : Type 0} (X : Election E) (x : Layout) (reuse : Option ℕ) (bases : List ℕ)
-    → x.batch ≤ 16 → AreBases bases → (p : ℕ)
+    → x.batch ≤ MOST_MESSAGES → AreBases bases → (p : ℕ)
     → IsCounted (process_of X) (new_sender x p reuse (slice_index bases p))
 counted X x None bases few are p = record {
   first = (let low = are.low p in omega arith);

@@ -8,7 +8,7 @@ use Rattle.std.proofs.lemmas.Bool.{cases_eq, cases_Bool, true≢false}
 use Rattle.std.proofs.lemmas.List.{length-append, length-set, set-get_or}
 use Rattle.std.proofs.lemmas.Option.{same_Some, slice_get_within}
 use Rattle.bus_register.specs.Protocol.{Protocol}
-use Rattle.bus_register.specs.declared.limits.TheConstants.{PASSED_ALL}
+use Rattle.bus_register.specs.declared.limits.TheConstants.{MOST_MESSAGES, PASSED_ALL}
 use Rattle.bus_register.specs.declared.registers.Op.{Op}
 use Rattle.bus_register.specs.declared.registers.Op.TheVariants.{Store, Cas}
 use Rattle.bus_register.specs.Private.TableLaws.{get_set_same, get_set_other, here_not}
@@ -241,7 +241,7 @@ module _ {E : Type 0} (X : Election E) (P : Protocol E (Unit {0}) ℕ) (x : Layo
       ready = record {
         sound = subst (λ q. IsSound v.frames.most q v.frames.bytes) (sym rests.between)
             rests.nothing;
-        limit = subst (λ n. (1 ≤ n) × (n ≤ 16))
+        limit = subst (λ n. (1 ≤ n) × (n ≤ MOST_MESSAGES))
             (sym (f.reads r v it.there).1.receives.has_read.limit) (omega arith, omega arith);
         named = subst (λ q. IsNamed q v.frames.left)
             (sym rests.between) tt;

@@ -19,6 +19,7 @@ use Rattle.std.proofs.lemmas.Bool.{cases_lt}
 use Rattle.std.proofs.lemmas.List.{length-append, length-take}
 use Rattle.std.proofs.lemmas.List.Elements.{All-head, All-append, All-replicate, All-take}
 use Rattle.std.proofs.lemmas.Option.{slice_get_within}
+use Rattle.bus_register.specs.declared.limits.TheConstants.{MOST_MESSAGES}
 use Rattle.bus_register.specs.declared.registers.SenderNo.{SenderNo}
 use Rattle.bus_batch.specs.declared.messages.Piece.{Piece}
 use Rattle.bus_batch.specs.declared.messages.Piece.TheVariants as piece
@@ -48,7 +49,7 @@ IsNamed place.Bad gone = Unit {0}
 -- it goes on with each word that it awaits
 pub record IsReady (r : Reading) : Type 0 where
   pub sound : IsSound r.most r.place r.bytes
-  pub limit : (1 ≤ r.most) × (r.most ≤ 16)
+  pub limit : (1 ≤ r.most) × (r.most ≤ MOST_MESSAGES)
   pub named : IsNamed r.place r.left
 
 -- an end mark was read

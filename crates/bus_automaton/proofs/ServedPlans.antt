@@ -21,8 +21,9 @@ use Rattle.std.proofs.lemmas.Bool.{true≢false}
 use Rattle.bus_tenure.specs.declared.pages.Page.{Page}
 use Rattle.bus_adoptcommit.specs.declared.verdicts.Verdict.{Verdict}
 use Rattle.bus_core.specs.declared.limits.TheConstants.{LEAST_ROWS_AGAIN}
-use Rattle.bus_machine.specs.Playing.{layout_passed, IsServed, ShapeOf, MakeRefused, RefusedAfter}
-use Rattle.bus_machine.specs.Playing.{RefusedWith}
+use Rattle.bus_machine.proofs.Bases.NewSenders.{batch_within}
+use Rattle.bus_machine.specs.Playing.{layout_passed, IsServed, ShapeOf, NewRefused, RefusedAfter}
+use Rattle.bus_machine.specs.Playing.{RefusedWith, IsBatch}
 use Rattle.bus_register.specs.declared.limits.TheConstants.{MOST_RECEIVERS}
 use Rattle.bus_automaton.specs.Buses.{passers_in}
 use Rattle.bus_machine.specs.Promise.{HasRows}
@@ -34,20 +35,23 @@ use Rattle.bus_world.specs.declared.shapes.MakeFault.TheVariants as make
 use Rattle.bus_world.specs.declared.shapes.Shape.{Shape}
 
 -- of two causes that differ, one says that a size is within its range, and the other that it is
--- beyond
-one_cause : (shape : Shape) (reuse : Option ℕ) (why other : MakeFault) → MakeRefused shape reuse why
-    → MakeRefused shape reuse other → why ≡ other
-one_cause shape reuse make.Senders make.Senders r s = refl
-one_cause shape reuse make.Receivers make.Receivers r s = refl
-one_cause shape reuse make.Rounds make.Rounds r s = refl
-one_cause shape reuse make.Rows make.Rows r s = refl
-one_cause shape reuse make.LogWords make.LogWords r s = refl
-one_cause shape reuse make.NoMemory make.NoMemory r s = refl
-one_cause shape reuse make.NotEnded other r s = absurd r
-one_cause shape reuse make.Numbers other r s = absurd r
-one_cause shape reuse why make.NotEnded r s = absurd s
-one_cause shape reuse why make.Numbers r s = absurd s
-one_cause shape reuse why other r s = absurd (omega arith)
+-- beyond, or that a batch may have so many messages, and the other that it may not
+one_cause : (n : ℕ) (shape : Shape) (reuse : Option ℕ) (why other : MakeFault)
+    → NewRefused n shape reuse why → NewRefused n shape reuse other → why ≡ other
+one_cause n shape reuse make.Senders make.Senders r s = refl
+one_cause n shape reuse make.Receivers make.Receivers r s = refl
+one_cause n shape reuse make.Rounds make.Rounds r s = refl
+one_cause n shape reuse make.Rows make.Rows r s = refl
+one_cause n shape reuse make.LogWords make.LogWords r s = refl
+one_cause n shape reuse make.Batch make.Batch r s = refl
+one_cause n shape reuse make.NoMemory make.NoMemory r s = refl
+one_cause n shape reuse make.Batch make.NoMemory r s = absurd (r.1 s.1)
+one_cause n shape reuse make.NoMemory make.Batch r s = absurd (s.1 r.1)
+one_cause n shape reuse make.NotEnded other r s = absurd r
+one_cause n shape reuse make.Numbers other r s = absurd r
+one_cause n shape reuse why make.NotEnded r s = absurd s
+one_cause n shape reuse why make.Numbers r s = absurd s
+one_cause n shape reuse why other r s = absurd (omega arith)
 
 one_after : (n : ℕ) (shape : Shape) (reuse : Option ℕ) (page : Page) (why other : MakeFault)
     → RefusedAfter n shape reuse page why
@@ -57,9 +61,16 @@ one_after n shape reuse page make.Receivers make.Receivers r s = refl
 one_after n shape reuse page make.Rounds make.Rounds r s = refl
 one_after n shape reuse page make.Rows make.Rows r s = refl
 one_after n shape reuse page make.LogWords make.LogWords r s = refl
+one_after n shape reuse page make.Batch make.Batch r s = refl
 one_after n shape reuse page make.NotEnded make.NotEnded r s = refl
 one_after n shape reuse page make.Numbers make.Numbers r s = refl
 one_after n shape reuse page make.NoMemory make.NoMemory r s = refl
+one_after n shape reuse page make.Batch make.NotEnded r s = absurd (r.1 s.0.1)
+one_after n shape reuse page make.Batch make.Numbers r s = absurd (r.1 s.0.1)
+one_after n shape reuse page make.Batch make.NoMemory r s = absurd (r.1 s.0.1)
+one_after n shape reuse page make.NotEnded make.Batch r s = absurd (s.1 r.0.1)
+one_after n shape reuse page make.Numbers make.Batch r s = absurd (s.1 r.0.1)
+one_after n shape reuse page make.NoMemory make.Batch r s = absurd (s.1 r.0.1)
 one_after n shape reuse page make.NotEnded make.Numbers r s = absurd (true≢false (sym s.1 ∙ r.1))
 one_after n shape reuse page make.NotEnded make.NoMemory r s =
     absurd (true≢false (sym s.1.ended ∙ r.1))
@@ -76,25 +87,25 @@ one_after n shape reuse page why other r s = absurd (omega arith)
 pub one_cause_after : (n : ℕ) (shape : Shape) (reuse : Option ℕ) (page : Option Page)
     (why other : MakeFault)
     → RefusedWith n shape reuse page why → RefusedWith n shape reuse page other → why ≡ other
-one_cause_after n shape reuse None why other r s = one_cause shape reuse why other r s
+one_cause_after n shape reuse None why other r s = one_cause n shape reuse why other r s
 one_cause_after n shape reuse (Some page) why other r s = one_after n shape reuse page why other r s
 
 pub is_layout : {S : Type 0} (P : Protocol S Bool Verdict) (shape : Shape) (reuse : Option ℕ)
-    (passers : ℕ) → IsServed shape reuse → passers ≤ MOST_RECEIVERS
+    (passers : ℕ) → IsServed shape reuse → passers ≤ MOST_RECEIVERS → IsBatch passers shape.batch
     → IsLayout (layout_passed P shape reuse passers)
-is_layout P shape None passers h few = record {
+is_layout P shape None passers h few batch = record {
   senders = h.senders.1;
   rows = (let z = h.rows.1 in omega arith);
   capacity = (let z = h.log_words.1 in omega arith);
   passers = few;
-  batch = (omega arith, omega arith);
+  batch = batch_within passers shape.batch batch;
 }
-is_layout P shape (Some rows) passers h few = record {
+is_layout P shape (Some rows) passers h few batch = record {
   senders = h.senders.1;
   rows = omega arith;
   capacity = (let z = h.log_words.1 in omega arith);
   passers = few;
-  batch = (omega arith, omega arith);
+  batch = batch_within passers shape.batch batch;
 }
 
 -- ---- passed places
@@ -118,12 +129,12 @@ as_planned P shape None passers = refl
 as_planned P shape (Some rows) passers = refl
 
 pub batch_planned : {S : Type 0} (P : Protocol S Bool Verdict) (shape : Shape) (reuse : Option ℕ)
-    (passers : ℕ) → (layout_passed P shape reuse passers).batch ≡ 16
+    (passers : ℕ) → (layout_passed P shape reuse passers).batch ≡ shape.batch
 batch_planned P shape None passers = refl
 batch_planned P shape (Some rows) passers = refl
 
 pub planned_low : {S : Type 0} (P : Protocol S Bool Verdict) (shape : Shape) (reuse : Option ℕ)
-    (passers n : ℕ) → n < first_numbers passers 16
+    (passers n : ℕ) → n < first_numbers passers shape.batch
     → n < first_numbers (layout_passed P shape reuse passers).passers
     (layout_passed P shape reuse passers).batch
 planned_low P shape None passers n low = low

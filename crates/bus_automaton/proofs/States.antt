@@ -2,12 +2,12 @@
 -- lead to.
 use Rattle.std.proofs.Common.{◌≡◌, ◌≢◌, ℕ, ◌+◌, ◌*◌, ◌%◌, ◌<◌, ◌≤◌, Bool, true, false, Option}
 use Rattle.std.proofs.Common.{Some, None, is_some, List, [], ◌++◌, drop, length, map, slice_get}
-use Rattle.std.proofs.Common.{slice_index, arith, refl, sym, ◌∙◌, ap, subst}
+use Rattle.std.proofs.Common.{All, slice_index, arith, refl, sym, ◌∙◌, ap, subst}
 use Rattle.std.proofs.lemmas.Bool.{true≢false}
 use Rattle.bus_batch.proofs.FrameLaws.{same_log}
 use Rattle.bus_batch.specs.Batches.{Pending}
 use Rattle.bus_batch.specs.Frames.{Frame, AreFrames, Order, Spells}
-use Rattle.bus_batch.specs.Frames.{log_words, order_of}
+use Rattle.bus_batch.specs.Frames.{log_words, order_of, items_of}
 use Rattle.bus_batch.specs.declared.messages.Item.{Item}
 use Rattle.bus_core.specs.Senders.{Sender, Validates, situation}
 use Rattle.bus_core.specs.Table.{line_now}
@@ -223,8 +223,16 @@ module _ {E : Type 0} (X : Election E) (P : Protocol E (Unit {0}) ℕ) (x : Layo
   promised_of = record {
     order = promise.order;
     owners = promise.owners;
-    spelled = subst (λ (u : ℕ × List ℕ). Spells u.0 u.1 promise.order promise.owners)
-        (λ n. ((h.layout n).senders, T.log)) promise.by.spelled;
+    spelled = record {
+      frames = promise.by.spelled.frames;
+      lawful = subst (λ n. AreFrames n promise.by.spelled.frames) (λ i. (h.layout i).senders)
+          promise.by.spelled.lawful;
+      words_are = promise.by.spelled.words_are;
+      order_is = promise.by.spelled.order_is;
+      owners_are = promise.by.spelled.owners_are;
+    };
+    few = subst (λ n. All (λ f. length (items_of f) ≤ n) promise.by.spelled.frames)
+        (λ i. (h.layout i).batch) promise.by.few;
     promises = subst
         (λ (l : List ℕ). Promises (slice_index l) T.actions no_answers promise.order promise.owners)
         h.bases_are

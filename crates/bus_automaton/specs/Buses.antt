@@ -3,12 +3,12 @@
 -- proved, by their laws alone.
 use Rattle.std.specs.Prelude.{ℕ, ◌<◌, Bool, true, false, Option, Some, None, slice_index}
 use Rattle.bus_register.specs.declared.kinds.Kind.{Kind}
-use Rattle.bus_register.specs.declared.limits.TheConstants.{MOST_MESSAGES}
 use Rattle.bus_register.specs.declared.registers.Op.{Op}
 use Rattle.bus_register.specs.Protocol.{Protocol}
 use Rattle.bus_adoptcommit.specs.declared.verdicts.Verdict.{Verdict}
 use Rattle.bus_core.specs.Senders.{Sender}
 use Rattle.bus_machine.specs.Playing.{layout_passed, IsServed, ShapeOf, RefusedWith, bases_after}
+use Rattle.bus_machine.specs.Playing.{IsBatch}
 use Rattle.bus_tenure.specs.Core.{Layout}
 use Rattle.bus_tenure.specs.Elections.{Elector, Ratifying, election_with}
 use Rattle.bus_tenure.specs.declared.pages.Page.{Page}
@@ -90,12 +90,15 @@ ring_plan shape page = record {
 abbrev pub AreBasesOf : Plan → Type 0
 AreBasesOf plan =
     AreBases plan.bases
-    × ((s : ℕ) → slice_index plan.bases s < first_numbers (plan_passers plan) MOST_MESSAGES)
+    × ((s : ℕ) → slice_index plan.bases s < first_numbers (plan_passers plan) plan.shape.batch)
 
 -- a bus of this plan is served: its sizes are, rows that are used again are as many as its shape
--- has, and its numbers have room
-abbrev pub Serves : Plan → Type 0
-Serves plan = IsServed plan.shape plan.reuse × ShapeOf plan.shape plan.reuse × AreBasesOf plan
+-- has, its numbers have room, and a batch may have so many messages
+pub record Serves (plan : Plan) : Type 0 where
+  pub sizes : IsServed plan.shape plan.reuse
+  pub shape : ShapeOf plan.shape plan.reuse
+  pub bases : AreBasesOf plan
+  pub batch : IsBatch (plan_passers plan) plan.shape.batch
 
 -- why no bus of this plan is made that goes on after this page, if after any
 abbrev pub Refuses : Plan → Option Page → MakeFault → Type 0

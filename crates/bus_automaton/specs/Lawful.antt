@@ -13,7 +13,7 @@ use Rattle.bus_batch.specs.declared.batches.Phase.TheVariants.{Marking}
 use Rattle.bus_batch.specs.declared.messages.Item.{Item}
 use Rattle.bus_batch.specs.declared.messages.Mark.{Mark}
 use Rattle.bus_batch.specs.Frames.{Frame, AreFrames, Order, Spells, log_words, log_pieces}
-use Rattle.bus_batch.specs.Frames.{order_of, order_in}
+use Rattle.bus_batch.specs.Frames.{order_of, order_in, items_of}
 use Rattle.bus_deliverylog.specs.Orders.{of_sender}
 use Rattle.bus_tenure.specs.Situations.{Comes}
 use Rattle.bus_tenure.specs.declared.pages.Page.{Page}
@@ -208,6 +208,8 @@ pub record IsPromisedOf {C : Type 0} (A : Automaton C) (z : A.State) : Type 0 wh
   pub order : Order
   pub owners : List (ℕ × SenderNo)
   pub spelled : Spells A.table_layout.senders (log_in A z) order owners
+  -- none of whose frames has more messages than a batch may have
+  pub few : All (λ f. length (items_of f) ≤ A.table_layout.batch) spelled.frames
   pub promises : Promises (base_in A) (actions_at A z) no_answers order owners
 
 pub record AutomatonLaws {C : Type 0} (P : Process C) (A : Automaton C) : Type 0 where

@@ -1,7 +1,7 @@
 //! What threads may go by holds of the one process and of the one automaton.
 
 ghost use Rattle.std.specs.Prelude.{◌≡◌, ◌≢◌, ℕ, ◌<◌, ◌≤◌, Option, None, false, List, slice_index};
-ghost use Rattle.bus_register.specs.declared.limits.TheConstants.{MOST_MESSAGES, MOST_SENDERS};
+ghost use Rattle.bus_register.specs.declared.limits.TheConstants.{MOST_SENDERS};
 ghost use Rattle.bus_core.specs.Senders.{Sender};
 ghost use Rattle.bus_core.specs.Telling.{FeedTells};
 ghost use Rattle.bus_tenure.specs.Elections.{Elector, election_of, layout_with};
@@ -63,8 +63,8 @@ pub fn automaton_opens<Q: Ratifier>()
 /// for want of memory each that is served and no other: so with another fault none is that is
 /// served. A number of its senders fits a byte, and its numbers leave room for a whole log, or
 /// where that is a ring for all tenures; with the numbers of its plan the bus begins. It has a
-/// passed place for each receiver where its log is a ring, and else none, and 16 messages are the
-/// most of a batch.
+/// passed place for each receiver where its log is a ring, and else none, and its shape says how
+/// many messages a batch may have.
 pub fn threads_may_go_by<Q: Ratifier>()
     ensures process { ProcessLaws (process_by Q.Ratifier) }
     ensures tells { let X = election_of Q.Ratifier in
@@ -78,16 +78,16 @@ pub fn threads_may_go_by<Q: Ratifier>()
         → Refuses plan page why → Refuses plan page other → why ≡ other }
     ensures memory { (plan : Plan) (page : Option Page) → ShapeOf plan.shape plan.reuse
         → AreBasesOf plan → Refuses plan page NoMemory
-        → Serves plan × MayGoOn (plan_passers plan) page }
+        → Serves plan × MayGoOn (plan_passers plan) plan.shape.batch page }
     ensures no_memory { (plan : Plan) (page : Option Page) → Serves plan
-        → MayGoOn (plan_passers plan) page → Refuses plan page NoMemory }
+        → MayGoOn (plan_passers plan) plan.shape.batch page → Refuses plan page NoMemory }
     ensures few_senders { (plan : Plan) → Serves plan → plan.shape.senders ≤ MOST_SENDERS }
     ensures numbers { (plan : Plan) (s : ℕ) → Serves plan
-        → slice_index plan.bases s < first_numbers (plan_passers plan) MOST_MESSAGES }
+        → slice_index plan.bases s < first_numbers (plan_passers plan) plan.shape.batch }
     ensures passers { (plan : Plan)
         → (automaton_by Q.Ratifier plan).table_layout.passers ≡ plan_passers plan }
     ensures batch { (plan : Plan)
-        → (automaton_by Q.Ratifier plan).table_layout.batch ≡ MOST_MESSAGES }
+        → (automaton_by Q.Ratifier plan).table_layout.batch ≡ plan.shape.batch }
     ensures bases { (plan : Plan) → (automaton_by Q.Ratifier plan).bases ≡ plan.bases }
     ensures automaton { (plan : Plan)
         → AutomatonLaws (process_by Q.Ratifier) (automaton_by Q.Ratifier plan) }

@@ -2,7 +2,7 @@
 
 ghost use Rattle.std.specs.Prelude.{◌≡◌, ◌≤◌, None, IfErr, IfOk, OnOk};
 ghost use Rattle.std.specs.Option.{option_copied};
-ghost use Rattle.bus_machine.specs.Playing.{MayGoOn, MayNotGoOn};
+ghost use Rattle.bus_machine.specs.Playing.{IsBatch, MayGoOn, MayNotGoOn};
 ghost use Rattle.bus_automaton.specs.Buses.{AreBasesOf, plan_after, plan_passers, new_plan};
 ghost use Rattle.bus_automaton.specs.Buses.{cyclic_plan, ring_plan};
 
@@ -74,17 +74,20 @@ impl Plan {
     }
 
     /// The same plan of the sitting that goes on after this page, of which nothing but its numbers
-    /// is carried over; with no page of a first sitting. Gives NotEnded where the page says that
-    /// its order has not ended, and Numbers where a sender's next number is 2^48 - 65,536 or more,
-    /// or 2^48 - 2^44 - 16 or more where its log is a ring.
+    /// is carried over; with no page of a first sitting. Gives Batch where a batch may not have as
+    /// many messages as its shape says, NotEnded where the page says that its order has not ended,
+    /// and Numbers where a sender's next number is 2^48 - 65,536 or more, or, of a ring with
+    /// batches of B messages, 2^48 - B * (2^40 + 1) or more.
     pub fn after(self, page: Option<&Page>) -> Result<Plan, MakeFault>
+        ensures batch { OnOk result (IsBatch (plan_passers self) self.shape.batch) }
         ensures plan { IfOk result (λ plan. plan ≡ plan_after self (option_copied page.entry)) }
         ensures bases { IfOk result (λ plan. AreBasesOf plan) }
-        ensures follows { OnOk result (MayGoOn (plan_passers self) (option_copied page.entry)) }
-        ensures fault { IfErr result (MayNotGoOn (plan_passers self)
+        ensures follows { OnOk result (MayGoOn (plan_passers self) self.shape.batch
+            (option_copied page.entry)) }
+        ensures fault { IfErr result (MayNotGoOn (plan_passers self) self.shape.batch
             (option_copied page.entry)) }
     {
-        let bases = first_numbers(page, self.passers())?;
+        let bases = first_numbers(page, self.passers(), self.shape.batch)?;
         Ok(Plan { bases, ..self })
     }
 }

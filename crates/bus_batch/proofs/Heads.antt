@@ -5,6 +5,7 @@ use Rattle.std.proofs.Common.{sym, ap, ◌∙◌, subst, inl, inr}
 use Rattle.std.specs.Prelude.{◌≢◌, All, Bool, true, false, Option, Some, slice_get}
 use Rattle.std.proofs.lemmas.List.Elements.{All-nil, All-cons, All-head, All-tail}
 use Rattle.std.specs.List.{flat_map}
+use Rattle.bus_register.specs.declared.limits.TheConstants.{MOST_MESSAGES, MOST_BODY_WORDS}
 use Rattle.bus_register.specs.declared.registers.SenderNo.{SenderNo}
 use Rattle.bus_batch.specs.declared.messages.Mark.TheVariants as mark
 use Rattle.bus_batch.specs.declared.messages.Piece.{Piece}
@@ -31,10 +32,10 @@ body_within most (Messages ms) some h = let e = words_most ms h.2 in let s = h.1
 body_within most (Marked m) some h = omega arith
 
 pub body_some : (b : Body) → IsBody b → 1 ≤ length (body_words b)
-body_some b h = body_has 16 b h
+body_some b h = body_has MOST_MESSAGES b h
 
-pub body_most : (b : Body) → IsBody b → length (body_words b) ≤ 128
-body_most b h = body_within 16 b (omega arith) h
+pub body_most : (b : Body) → IsBody b → length (body_words b) ≤ MOST_BODY_WORDS
+body_most b h = body_within MOST_MESSAGES b (omega arith) h
 
 some_messages : (ms : List Numbered) (count : ℕ) → length (flat_map message_words ms) ≡ count
     → 1 ≤ count → 0 < length ms
@@ -45,7 +46,7 @@ abbrev owner_of : ℕ → SenderNo
 owner_of n = record { 0 = n }
 
 module _ (most senders least word : ℕ) (gone : List Bool) (bytes bytes' : List ℕ)
-    (limit : (1 ≤ most) × (most ≤ 16)) (h : Head)
+    (limit : (1 ≤ most) × (most ≤ MOST_MESSAGES)) (h : Head)
     (is : IsHead most senders least word h) (stays : slice_get gone h.owner.0 ≡ Some false) where
   -- its frame, and then frames of others than have left
   of_stayers : (frame : Frame) (frames : List Frame) → frame.owner ≡ h.owner
@@ -302,7 +303,7 @@ module _ (most senders least word : ℕ) (gone : List Bool) (bytes : List ℕ) (
 
 -- so is the head of one who has left
 module _ (most senders least word : ℕ) (gone : List Bool) (bytes : List ℕ)
-    (limit : (1 ≤ most) × (most ≤ 16)) (h : Head)
+    (limit : (1 ≤ most) × (most ≤ MOST_MESSAGES)) (h : Head)
     (is : IsHead most senders least word h) (left : slice_get gone h.owner.0 ≡ Some true) where
   no_leaver : (rest : List ℕ) (frames : List Frame) → MayFollow most senders least gone frames
       → word ∷ rest ≡ log_words frames → ⊥

@@ -23,6 +23,9 @@ pub mod Batching
 pub mod Spelling
 -- Words spell one log at most, and a frame's words begin no other frame's.
 pub mod FrameLaws
+-- Frames of so many messages at most are frames of more, and not the other way round; but those of
+-- which none has more messages are of that limit.
+pub mod LimitLaws
 -- What no log has, and that each refusal has one fault alone.
 pub mod RefusalLaws
 -- A batch makes a lawful frame.

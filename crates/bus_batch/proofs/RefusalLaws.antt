@@ -10,6 +10,7 @@ use Rattle.std.proofs.lemmas.List.Elements.{All-head, All-tail}
 use Rattle.bus_batch.specs.declared.batches.Phase.TheVariants.{Open, Marking, Closed}
 use Rattle.bus_batch.specs.declared.messages.Mark.{Mark}
 use Rattle.bus_batch.specs.declared.messages.Mark.TheVariants as mark
+use Rattle.bus_register.specs.declared.limits.TheConstants.{MOST_BODY_WORDS}
 use Rattle.bus_register.specs.declared.registers.SenderNo.{SenderNo}
 use Rattle.bus_batch.specs.declared.batches.PutFault.{PutFault}
 use Rattle.bus_batch.specs.declared.batches.PutFault.TheVariants as put
@@ -92,7 +93,8 @@ first_frame senders least head words [] lawful e = absurd cc
 first_frame senders least head words (f ∷ frames) lawful e = (f, log_words frames, lawful.0, cc, cc)
 
 pub none_so_long : (senders owner count tenure : ℕ) (rest : List ℕ) → owner < 2 ^ 8 → count < 2 ^ 14
-    → tenure < 2 ^ 40 → 128 < count → IsLog senders (head_word owner count tenure ∷ rest) → ⊥
+    → tenure < 2 ^ 40 → MOST_BODY_WORDS < count
+    → IsLog senders (head_word owner count tenure ∷ rest) → ⊥
 none_so_long senders owner count tenure rest a b d long log =
     let f =
     first_frame senders 0 (head_word owner count tenure) rest log.frames log.lawful log.words_are in
@@ -105,7 +107,7 @@ none_so_long senders owner count tenure rest a b d long log =
 -- a body that begins with an empty message has one word for it, and at most eight for each of the
 -- others
 few_words : (b : Body) (more rest : List ℕ) (number : ℕ) → IsBody b → number < 2 ^ 48
-    → body_words b ++ more ≡ message_word 0 number ∷ rest → length (body_words b) ≤ 121
+    → body_words b ++ more ≡ message_word 0 number ∷ rest → length (body_words b) ≤ 505
 few_words (Messages []) more rest number lawful n e = let some = lawful.0 in absurd (omega arith)
 few_words (Messages (m ∷ ms)) more rest number lawful n e =
     let here = All-head IsNumbered m ms lawful.2 in
@@ -124,7 +126,7 @@ few_words (Marked m) more rest number lawful n e =
     absurd (not_mark m 0 number (omega arith) n (sym first))
 
 pub none_unfillable : (senders owner count tenure number : ℕ) (rest : List ℕ) → owner < 2 ^ 8
-    → count < 2 ^ 14 → tenure < 2 ^ 40 → number < 2 ^ 48 → 121 < count
+    → count < 2 ^ 14 → tenure < 2 ^ 40 → number < 2 ^ 48 → 505 < count
     → IsLog senders (head_word owner count tenure ∷ message_word 0 number ∷ rest) → ⊥
 none_unfillable senders owner count tenure number rest a b d n long log =
     let f = first_frame senders 0 (head_word owner count tenure) (message_word 0 number ∷ rest)

@@ -6,6 +6,7 @@ use Rattle.std.specs.List.{list_any}
 use Rattle.std.proofs.Math.Seq.{take-append_seam, drop-append_seam}
 use Rattle.std.proofs.lemmas.Bool.{true_from_ne_false, true≢false}
 use Rattle.std.proofs.lemmas.List.Elements.{All-nil}
+use Rattle.bus_register.specs.declared.limits.TheConstants.{MOST_MESSAGES}
 use Rattle.bus_register.specs.declared.registers.SenderNo.{SenderNo}
 use Rattle.bus_batch.specs.declared.messages.Piece.{Piece}
 use Rattle.bus_batch.specs.declared.readers.Place.{Place}
@@ -46,12 +47,12 @@ pub stands_between : (senders : ℕ) (words : List ℕ) (pieces : List (Option P
     → (is_between r.place ≡ true) ↔ (IsLog senders words × (list_any is_end pieces ≡ false))
 stands_between senders words pieces r had = (
   (λ at.
-      let log = between_is_log 16 senders words pieces r had at in (
+      let log = between_is_log MOST_MESSAGES senders words pieces r had at in (
         record { frames = log.frames; lawful = log.lawful; words_are = log.words_are },
-        between_goes_on 16 senders words pieces r had at,
+        between_goes_on MOST_MESSAGES senders words pieces r had at,
       )),
   (λ log. true_from_ne_false (is_between r.place) (λ not.
-      elim (outside_between 16 senders words pieces r had not) [
+      elim (outside_between MOST_MESSAGES senders words pieces r had not) [
         | inl torn ↦ torn log.0
         | inr ended ↦ true≢false (sym ended ∙ log.1)
       ])),
@@ -132,4 +133,5 @@ not_at_no_end senders words pieces r at none had = true≢false (sym (had.ended.
 pub not_before_the_end : (senders : ℕ) (words : List ℕ) (pieces : List (Option Piece)) (r : Reading)
     → r.place ≡ Between → list_any is_end pieces ≡ true → ¬ HasRead senders words pieces r
 not_before_the_end senders words pieces r at some had =
-    true≢false (sym some ∙ between_goes_on 16 senders words pieces r had (ap is_between at))
+    true≢false
+    (sym some ∙ between_goes_on MOST_MESSAGES senders words pieces r had (ap is_between at))

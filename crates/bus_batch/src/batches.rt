@@ -61,7 +61,7 @@ pub enum Phase {
 #[derive(Debug, Drop)]
 pub struct Batch {
     sender: SenderNo,
-    /// So many messages at most, 1 to 16.
+    /// So many messages at most, 1 to 64.
     limit: u64,
     first: u64,
     /// How many messages wait.
@@ -114,7 +114,7 @@ impl Batch {
     ghost use Rattle.bus_batch.specs.Batches.{phase_sent};
 
     /// An empty batch of a sender whose next message has the number `next`; it takes so many
-    /// messages, 1 to 16, before it is full.
+    /// messages, 1 to 64, before it is full.
     pub fn new(sender: SenderNo, next: u64, limit: u64) -> Batch
         requires number { next ≤ NUMBERS }
         requires limit { (1 ≤ limit) × (limit ≤ MOST_MESSAGES) }
@@ -147,7 +147,7 @@ impl Batch {
         self.count
     }
 
-    /// How many messages may wait: 1 to 16.
+    /// How many messages may wait: 1 to 64.
     pub fn limit(&self) -> u64
         ensures limit { result ≡ self.now.limit }
         ensures some { 1 ≤ result }
@@ -336,7 +336,7 @@ impl Batch {
         self.busy = false;
     }
 
-    /// How many words the frame has, its head included: 2 to 129.
+    /// How many words the frame has, its head included: 2 to 513.
     pub fn frame_len(&self) -> u64
         requires { HasSomething self.now }
         ensures len { (tenure : ℕ)

@@ -2,7 +2,7 @@
 
 ghost use Rattle.std.specs.Prelude.{◌≡◌, ◌≢◌, ℕ, ◌+◌, ◌-◌, ◌*◌, ◌%◌, ◌^◌, ◌<◌, ◌≤◌};
 ghost use Rattle.std.specs.Prelude.{List, [], ◌∷◌};
-ghost use Rattle.std.specs.Prelude.{◌++◌, All, flat_map, map, false, true, ◌↔◌};
+ghost use Rattle.std.specs.Prelude.{◌++◌, All, flat_map, length, map, false, true, ◌↔◌};
 ghost use Rattle.bus_batch.specs.declared.messages.Mark.{Mark};
 ghost use Rattle.bus_batch.specs.declared.messages.Mark.TheVariants as mark;
 ghost use Rattle.bus_batch.specs.Frames.{Frame, Messages, Marked, IsFrame, AreFrames, frame_words};
@@ -13,6 +13,7 @@ ghost use Rattle.bus_batch.specs.declared.readers.Place.TheVariants as place;
 ghost use Rattle.bus_register.specs.declared.registers.SenderNo.{SenderNo};
 ghost use Rattle.bus_batch.specs.Frames.{IsLog, head_word, message_word};
 ghost use Rattle.bus_batch.specs.Frames.{Spells, order_of, items_of, ends, tenure_and_owner};
+ghost use Rattle.bus_batch.specs.Frames.{AreFramesOf, SpellsOf, IsLogOf};
 ghost use Rattle.bus_register.specs.declared.limits.TheConstants.{TENURES, NUMBERS};
 ghost use Rattle.bus_register.specs.declared.limits.TheConstants.{MOST_BODY_WORDS};
 ghost use Rattle.bus_register.specs.declared.limits.TheConstants.{MOST_MESSAGE_WORDS};
@@ -55,6 +56,32 @@ pub fn spells_grow()
           entries = order.entries ++ entries_of f;
           ended = ends f.body;
         }) (owners ++ tenure_and_owner f ∷ []) }
+{}
+
+/// Frames of so many messages at most are frames of more, words that spell an order with them spell
+/// it with more, of the same tenures and owners, and a log of them is one of more. Not the other
+/// way round: a frame of two messages is one of at most two, its words spell and are a log of such
+/// frames, and none of frames of one message. But frames of which none has more messages than some
+/// limit are of that limit, whatever their own was, and their words spell the same of it.
+pub fn fewer_are_frames_too()
+    ensures frames { (few more senders : ℕ) (frames : List Frame) → few ≤ more
+        → AreFramesOf few senders frames → AreFramesOf more senders frames }
+    ensures spells { (few more senders : ℕ) (words : _) (order : _) (owners : _) → few ≤ more
+        → SpellsOf few senders words order owners → SpellsOf more senders words order owners }
+    ensures log { (few more senders : ℕ) (words : List ℕ) → few ≤ more
+        → IsLogOf few senders words → IsLogOf more senders words }
+    ensures exact { (most few senders : ℕ) (frames : List Frame)
+        → AreFramesOf most senders frames → All (λ f. length (items_of f) ≤ few) frames
+        → AreFramesOf few senders frames }
+    ensures exact_spell { (most few senders : ℕ) (words : _) (order : _) (owners : _)
+        (s : SpellsOf most senders words order owners)
+        → All (λ f. length (items_of f) ≤ few) s.frames
+        → SpellsOf few senders words order owners }
+    ensures more_frames { (frames : List Frame) × AreFramesOf 2 1 frames
+        × (¬ AreFramesOf 1 1 frames) }
+    ensures more_spell { (words : List ℕ) × (order : _) × (owners : _)
+        × SpellsOf 2 1 words order owners × (¬ SpellsOf 1 1 words order owners) }
+    ensures more_log { (words : List ℕ) × IsLogOf 2 1 words × (¬ IsLogOf 1 1 words) }
 {}
 
 /// The items of an order are those of its frames, in their order.

@@ -123,7 +123,7 @@ fn message_of(word: u64) -> Option<Length>
 #[derive(Debug, Drop)]
 pub struct FrameReader {
     senders: u64,
-    /// The messages of a frame: at most so many, 1 to 16.
+    /// The messages of a frame: at most so many, 1 to 64.
     most: u64,
     least: u64,
     /// Who has left, by number: for each owner that a head can name.
@@ -174,7 +174,7 @@ impl FrameReader {
         FrameReader::within(senders, BATCH_MESSAGES)
     }
 
-    /// The same of a log whose frames have so many messages at most, 1 to 16.
+    /// The same of a log whose frames have so many messages at most, 1 to 64.
     pub fn within(senders: u64, most: u64) -> FrameReader
         requires most { (1 ≤ most) × (most ≤ MOST_MESSAGES) }
         ensures senders { result.senders ≡ senders }

@@ -1,10 +1,10 @@
 -- Which task a command names, by its name and what its options were given.
-use Rattle.std.proofs.Common.{◌≡◌, Bool, true, false, List, Option, Some, None, inl, inr, codes}
+use Rattle.std.proofs.Common.{◌≡◌, ℕ, Bool, true, false, List, Option, Some, None, inl, inr, codes}
 use Rattle.std.proofs.Common.{refl, sym, ◌∙◌, ap, subst}
 use Rattle.std.proofs.lemmas.Option.{same_Some}
 use Rattle.std.specs.Str.{bytes_eq}
 use Rattle.clap.specs.Words.{Row, Text, one_of}
-use Rattle.bus_commands.specs.CommandLine.{IsGiven, IsLeftOut, AsksFor, NamesTask}
+use Rattle.bus_commands.specs.CommandLine.{IsGiven, IsLeftOut, IsNumberOf, AsksFor, NamesTask}
 use Rattle.bus_commands.specs.declared.printing.Request.{Request}
 use Rattle.bus_commands.specs.declared.command_line.Task.{Task}
 use Rattle.bus_commands.specs.declared.command_line.Task.TheVariants as task
@@ -113,6 +113,35 @@ module _ (name : Text) (rows : List Row) where
           asked r e,
         );
         log = λ r e. absurd (other (codes "log") r refl refl e);
+        journal = λ r e a. absurd (other (codes "journal") r refl refl e);
+        repair = λ r e a. absurd (other (codes "journal") r refl refl e);
+      }
+
+  pub of_log : (senders batch : ℕ) → name ≡ codes "log"
+      → IsNumberOf (codes "senders") rows 3 senders → IsNumberOf (codes "batch") rows 16 batch
+      → NamesTask (Some (name, rows)) (task.Log senders batch)
+  of_log senders batch is some most =
+      let other : (m : Text) (rows' : List Row) → bytes_eq (codes "log") m ≡ false
+      → bytes_eq m m ≡ true → met name rows ≡ met m rows' → ⊥ =
+      λ m rows' differ same e. apart (codes "log") m differ same (sym is ∙ name_is m rows' e) in
+      record {
+        ratify = λ r e. absurd (other (codes "ratify") r refl refl e);
+        replay = λ r e. absurd (other (codes "replay") r refl refl e);
+        trace = λ r e a b d. absurd (other (codes "trace") r refl refl e);
+        picture = λ r e a. absurd (other (codes "trace") r refl refl e);
+        webpage = λ r e a b. absurd (other (codes "trace") r refl refl e);
+        play = λ r e a b d. absurd (other (codes "trace") r refl refl e);
+        run = λ r e a b. absurd (other (codes "run") r refl refl e);
+        run_log = λ r e a. absurd (other (codes "run") r refl refl e);
+        run_journal = λ r e a b. absurd (other (codes "run") r refl refl e);
+        log = λ r e.
+            let same = sym (rows_are (codes "log") r e) in (
+              senders,
+              batch,
+              refl,
+              subst (λ z. IsNumberOf (codes "senders") z 3 senders) same some,
+              subst (λ z. IsNumberOf (codes "batch") z 16 batch) same most,
+            );
         journal = λ r e a. absurd (other (codes "journal") r refl refl e);
         repair = λ r e a. absurd (other (codes "journal") r refl refl e);
       }

@@ -1,5 +1,6 @@
 -- What is printed of a run that ended well, and that nothing is printed of another.
-use Rattle.std.proofs.Common.{◌≡◌, ℕ, ◌<◌, ◌≤◌, ◌^◌, List, inl, inr, refl, sym, subst, ◌∙◌, arith}
+use Rattle.std.proofs.Common.{◌≡◌, ℕ, ◌+◌, ◌*◌, ◌<◌, ◌≤◌, ◌^◌, List, [], ◌∷◌, length, inl}
+use Rattle.std.proofs.Common.{inr, refl, sym, subst, ◌∙◌, arith}
 use Rattle.std.specs.Prelude.{Result, Err, IsErr, IsErrAnd}
 use Rattle.bus_pageslot.specs.Outcomes.{Outcome}
 use Rattle.bus_receiver.specs.Hearing.{Hearing}
@@ -8,11 +9,14 @@ use Rattle.bus_run.specs.Reports.{IsRunReport}
 use Rattle.bus_run.specs.RunText.{report_text, IsRunText}
 use Rattle.bus_logtext.specs.Words.{words_text}
 use Rattle.bus_commands.specs.RunLog.{IsRunLog, IsRunJournal, run_heading}
-use Rattle.bus_batch.specs.Frames.{Frame, AreFrames, log_words}
+use Rattle.bus_batch.specs.Frames.{Frame, AreFrames, AreFramesFromOf, body_words, log_words}
+use Rattle.bus_batch.proofs.Heads.{body_within}
 use Rattle.bus_journal.specs.Format.{IsHeading, journal_bytes}
+use Rattle.bus_journal.specs.Reading.{AreFew}
 use Rattle.bus_register.specs.declared.limits.TheConstants.{MOST_SENDERS}
 use Rattle.std.proofs.lemmas.List.{length-replicate}
-use Rattle.std.proofs.lemmas.List.Elements.{All-replicate}
+use Rattle.std.proofs.lemmas.List.Elements.{All-cons, All-nil, All-replicate}
+use Rattle.bus_run.proofs.FrameLimits.{few_left}
 use Rattle.bus_run.specs.Stops.{IsStop, IsRunFault}
 use Rattle.bus_run.specs.declared.faults.RunFault.{RunFault}
 use Rattle.bus_run.specs.declared.faults.RunFault.TheVariants as run
@@ -65,6 +69,16 @@ is_run_heading senders some few = record {
   words = All-replicate (λ number. number < 2 ^ 64) senders 0 (omega arith);
 }
 
+-- frames of so many messages at most have as many words as those have
+pub are_few : (most senders least : ℕ) (frames : List Frame) → 1 ≤ most
+    → AreFramesFromOf most senders least frames → AreFew most frames
+are_few most senders least [] some lawful =
+    All-nil (λ (g : Frame). length (body_words g.body) ≤ 8 * most)
+are_few most senders least (f ∷ frames) some lawful =
+    All-cons (λ (g : Frame). length (body_words g.body) ≤ 8 * most) f frames
+    (body_within most f.body some lawful.0.body)
+    (are_few most senders (f.tenure + 1) frames some lawful.3)
+
 -- the bytes of a journal of the frames that the words spell
 pub is_run_journal :
     (senders receivers messages : ℕ) (left : Outcome) (heards : List Hearing) (text : List ℕ)
@@ -80,7 +94,9 @@ is_run_journal senders receivers messages left heards text made said =
       summary = report_text made.spelled.0 left.page senders heards;
       run = text_of_order senders receivers messages left heards _ made refl;
       frames = s.frames;
-      lawful = lawful;
+      lawful =
+          few_left (shape_of_run senders receivers) messages left heards made s.frames lawful
+          s.words_are;
       words_are = s.words_are;
       text_is = said s.frames lawful s.words_are;
     }

@@ -13,7 +13,7 @@ use Rattle.bus_commands.specs.declared.printing.Request.{Request}
 use Rattle.bus_commands.specs.declared.command_line.Task.{Task}
 use Rattle.bus_commands.specs.declared.command_line.Task.TheVariants as task
 use Rattle.bus_webpage.specs.declared.webpages.Purpose.TheVariants as purpose
-use Rattle.bus_register.specs.declared.limits.TheConstants.{MOST_SENDERS}
+use Rattle.bus_register.specs.declared.limits.TheConstants.{MOST_MESSAGES, MOST_SENDERS}
 use Rattle.bus_run.specs.declared.limits.TheConstants.{MOST_MESSAGES_EACH}
 use Rattle.bus_run.specs.declared.limits.TheConstants.{MOST_RECEIVE_WORKERS, MOST_SEND_WORKERS}
 
@@ -59,8 +59,11 @@ run_command =
     (record (flag (codes "journal")) { is_free = false })
 
 abbrev pub log_command : App
-log_command = with_rule (new_app (codes "log"))
-    (number (codes "senders") (codes "3") (Unsigned 1 MOST_SENDERS))
+log_command =
+    with_rule
+    (with_rule (new_app (codes "log"))
+    (number (codes "senders") (codes "3") (Unsigned 1 MOST_SENDERS)))
+    (number (codes "batch") (codes "16") (Unsigned 1 MOST_MESSAGES))
 
 abbrev pub journal_command : App
 journal_command = with_rule (new_app (codes "journal")) (flag (codes "repair"))
@@ -133,7 +136,8 @@ pub record NamesTask (met : Option (Text × List Row)) (t : Task) : Type 0 where
       → IsLeftOut (codes "log") rows → IsGiven (codes "journal") rows
       → (request : Request) × (t ≡ task.RunJournal request) × AsksFor rows request
   pub log : (rows : List Row) → met ≡ Some (codes "log", rows)
-      → (senders : ℕ) × (t ≡ task.Log senders) × IsNumberOf (codes "senders") rows 3 senders
+      → (senders batch : ℕ) × (t ≡ task.Log senders batch)
+      × IsNumberOf (codes "senders") rows 3 senders × IsNumberOf (codes "batch") rows 16 batch
   pub journal : (rows : List Row) → met ≡ Some (codes "journal", rows)
       → IsLeftOut (codes "repair") rows → t ≡ task.Journal
   pub repair : (rows : List Row) → met ≡ Some (codes "journal", rows)

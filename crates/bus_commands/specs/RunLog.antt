@@ -1,7 +1,7 @@
 -- What `run` prints of a run's log, and the journal that it writes.
 use Rattle.std.specs.Prelude.{◌≡◌, ℕ, List, replicate}
-use Rattle.bus_register.specs.declared.limits.TheConstants.{MOST_MESSAGES}
-use Rattle.bus_batch.specs.Frames.{Frame, AreFrames, log_words}
+use Rattle.bus_register.specs.declared.limits.TheConstants.{LOG_MESSAGES}
+use Rattle.bus_batch.specs.Frames.{Frame, AreFramesOf, log_words}
 use Rattle.bus_journal.specs.Format.{Heading, journal_bytes}
 use Rattle.bus_logtext.specs.Words.{words_text}
 use Rattle.bus_run.specs.RunText.{IsRunText}
@@ -17,7 +17,7 @@ pub record IsRunLog (senders receivers messages : ℕ) (text : List ℕ) : Type 
 abbrev pub run_heading : ℕ → Heading
 run_heading senders = record {
   senders = senders;
-  most = MOST_MESSAGES;
+  most = LOG_MESSAGES;
   place = 0;
   first = replicate senders 0;
 }
@@ -27,6 +27,7 @@ pub record IsRunJournal (senders receivers messages : ℕ) (text : List ℕ) : T
   pub summary : List ℕ
   pub run : IsRunText senders receivers messages summary
   pub frames : List Frame
-  pub lawful : AreFrames senders frames
+  -- none of them has more messages than the header says
+  pub lawful : AreFramesOf LOG_MESSAGES senders frames
   pub words_are : log_words frames ≡ run.left.log
   pub text_is : text ≡ journal_bytes (run_heading senders) frames

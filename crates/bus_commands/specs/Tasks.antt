@@ -1,5 +1,6 @@
 -- What each task answers: the command and the ratifier that it names.
-use Rattle.std.specs.Prelude.{◌≡◌, ℕ, List, min}
+use Rattle.std.specs.Prelude.{◌≡◌, ℕ, List, max, min}
+use Rattle.bus_register.specs.declared.limits.TheConstants.{MOST_MESSAGES}
 use Rattle.bus_adoptcommit.specs.ThreeWord.{Local, kind_at, op_of, fed_of}
 use Rattle.bus_adoptcommit.specs.ThreeWordKeeps.{three_word}
 use Rattle.bus_script.specs.declared.answers.Outcome.{Outcome}
@@ -32,7 +33,7 @@ limit_of (task.Webpage purpose) = SCRIPT_LIMIT
 limit_of (task.Run request) = SCRIPT_LIMIT
 limit_of (task.RunLog request) = SCRIPT_LIMIT
 limit_of (task.RunJournal request) = SCRIPT_LIMIT
-limit_of (task.Log senders) = LOG_LIMIT
+limit_of (task.Log senders batch) = LOG_LIMIT
 limit_of task.Journal = JOURNAL_LIMIT
 limit_of task.Repair = JOURNAL_LIMIT
 
@@ -46,7 +47,7 @@ ReadsInput (task.Webpage purpose) = Unit {0}
 ReadsInput (task.Run request) = ⊥
 ReadsInput (task.RunLog request) = ⊥
 ReadsInput (task.RunJournal request) = ⊥
-ReadsInput (task.Log senders) = Unit {0}
+ReadsInput (task.Log senders batch) = Unit {0}
 ReadsInput task.Journal = Unit {0}
 ReadsInput task.Repair = Unit {0}
 
@@ -54,6 +55,11 @@ ReadsInput task.Repair = Unit {0}
 abbrev pub by_three_words : Election (Elector Local)
 by_three_words = election_with (λ s. kind_at s.progress) (λ s word. op_of s)
     (λ s got word. fed_of s got) three_word
+
+-- how many messages a frame of a log has at most where so many are asked for: 1 where none are, and
+-- where they are more than any frame may have as many as that
+abbrev pub most_of : ℕ → ℕ
+most_of batch = max (min batch MOST_MESSAGES) 1
 
 -- what a task that reads answers to an input, and the text that is written of it
 abbrev pub AnswersTask : Task → List ℕ → Outcome → List ℕ → Type 0
@@ -70,7 +76,8 @@ AnswersTask (task.Webpage purpose) input outcome text =
 AnswersTask (task.Run request) input outcome text = ⊥
 AnswersTask (task.RunLog request) input outcome text = ⊥
 AnswersTask (task.RunJournal request) input outcome text = ⊥
-AnswersTask (task.Log senders) input outcome text = IsTold senders input outcome text
+AnswersTask (task.Log senders batch) input outcome text =
+    IsTold (most_of batch) senders input outcome text
 AnswersTask task.Journal input outcome text = IsJournalAnswer input outcome text
 AnswersTask task.Repair input outcome text = IsRepaired input outcome text
 
@@ -84,7 +91,7 @@ FailsTask (task.Webpage purpose) fault = ⊥
 FailsTask (task.Run request) fault = IsRunFault request.senders request.receivers fault
 FailsTask (task.RunLog request) fault = IsRunFault request.senders request.receivers fault
 FailsTask (task.RunJournal request) fault = IsRunFault request.senders request.receivers fault
-FailsTask (task.Log senders) fault = ⊥
+FailsTask (task.Log senders batch) fault = ⊥
 FailsTask task.Journal fault = ⊥
 FailsTask task.Repair fault = ⊥
 
@@ -101,6 +108,6 @@ PrintsTask (task.RunLog request) text =
     IsRunLog request.senders request.receivers (min request.messages MOST_MESSAGES_EACH) text
 PrintsTask (task.RunJournal request) text =
     IsRunJournal request.senders request.receivers (min request.messages MOST_MESSAGES_EACH) text
-PrintsTask (task.Log senders) text = ⊥
+PrintsTask (task.Log senders batch) text = ⊥
 PrintsTask task.Journal text = ⊥
 PrintsTask task.Repair text = ⊥

@@ -51,7 +51,9 @@ pub fn answer<R: Read, W: Write>(
         Task::Trace => without_trace(alloc, trace::<ThreeWord, _, _>(alloc, reader, writer)),
         Task::Picture => picture::<ThreeWord, _, _>(alloc, reader, writer),
         Task::Webpage(purpose) => webpage::<ThreeWord, _, _>(alloc, purpose, reader, writer),
-        Task::Log { senders } => without_trace(alloc, log(alloc, senders, reader, writer)),
+        Task::Log { senders, batch } => {
+            without_trace(alloc, log(alloc, senders, batch, reader, writer))
+        }
         Task::Journal => without_trace(alloc, journal(alloc, reader, writer)),
         Task::Repair => without_trace(alloc, repair(alloc, reader, writer)),
         Task::Run(_) | Task::RunLog(_) | Task::RunJournal(_) => unreachable!(),

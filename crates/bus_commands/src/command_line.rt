@@ -8,7 +8,7 @@ ghost use Rattle.bus_commands.specs.CommandLine.{NamesTask};
 
 use crate::help;
 use crate::printing::Request;
-use bus_register::limits::MOST_SENDERS;
+use bus_register::limits::{MOST_MESSAGES, MOST_SENDERS};
 use bus_run::limits::{MOST_MESSAGES_EACH, MOST_RECEIVE_WORKERS, MOST_SEND_WORKERS};
 use bus_webpage::Purpose;
 use clap::builder::ValueParser;
@@ -32,8 +32,8 @@ pub enum Task {
     RunLog(Request),
     /// Of a run, its journal.
     RunJournal(Request),
-    /// Of a log of so many senders, what it spells.
-    Log { senders: u64 },
+    /// Of a log of so many senders, with so many messages in a frame at most, what it spells.
+    Log { senders: u64, batch: u64 },
     /// Of a journal, what it says.
     Journal,
     /// Of a journal, what is left where a torn tail is cut off.
@@ -104,6 +104,7 @@ fn task_of(name: &str, given: &ArgMatches<'_>) -> Task
         "run" => Task::Run(request_of(given)),
         "log" => Task::Log {
             senders: number_of(given, "senders", 3),
+            batch: number_of(given, "batch", 16),
         },
         "journal" if given.get_flag("repair") => Task::Repair,
         "journal" => Task::Journal,
@@ -140,11 +141,13 @@ fn log_command<'a>(alloc: Global) -> Result<Command<'a>, Error>
     ensures local { IfOk result (λ c. (out-Command c).has_globals ≡ false) }
 {
     let senders = value_parser!(u64).range(1..MOST_SENDERS as i64 + 1);
+    let batch = value_parser!(u64).range(1..MOST_MESSAGES as i64 + 1);
     let command = Command::new(alloc, "log")
         .about("Tells what the words of a log on standard input spell")
         .override_usage(help::LOG_USAGE)
         .after_help(help::LOG)
-        .arg(number(alloc, "senders", "3", senders).help("Senders of the bus, 1 to 64"))?;
+        .arg(number(alloc, "senders", "3", senders).help("Senders of the bus, 1 to 64"))?
+        .arg(number(alloc, "batch", "16", batch).help("Most messages of a batch, 1 to 64"))?;
     Ok(command)
 }
 

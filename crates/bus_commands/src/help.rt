@@ -48,8 +48,9 @@ pub const REPLAY: &str =
     "The first line of a script is 'shape N M R T L': N senders (1 to 64), M receivers (1 to 64),
 R rounds for each bit (1 to 8), T tenures (1 to 256) and L log words (16 to 65536).
 With 'cycle' in the place of 'shape' there are T rows (2 to 8), which are used again, for up to
-2^40 tenures. With 'ring' the L log words are used again too, and a sixth number may say how
-many seats there are (M to 64), of which the first M have a receiver.
+2^40 tenures. With 'ring' the L log words are used again too, and two more numbers may stand
+behind L: 'ring N M R T L [S [B]]' has S seats (M to 64; M where left out), of which the first
+M have a receiver, and batches of at most B messages (1 to 64; 16 where left out).
 The lines behind it are 'put S HEX', 'close S', 'turn S W K', 'recv M K', 'stop S', 'leave S',
 'gone M' and 'fork I J'.
 Sender S takes at most K turns (1 to 10000), and votes by the word W; receiver M takes at most K.

@@ -41,7 +41,12 @@ pub fn commands_are_met()
         (λ rows. IsLeftOut (codes "log") rows × IsGiven (codes "journal") rows) }
     ensures log { MeetsWith (codes "log")
         (codes "bus" ∷ codes "log" ∷ codes "--senders=5" ∷ [])
-        (λ rows. one_of (codes "senders") rows ≡ Some (codes "5")) }
+        (λ rows. (one_of (codes "senders") rows ≡ Some (codes "5"))
+        × (one_of (codes "batch") rows ≡ Some (codes "16"))) }
+    ensures log_batch { MeetsWith (codes "log")
+        (codes "bus" ∷ codes "log" ∷ codes "--batch" ∷ codes "64" ∷ [])
+        (λ rows. (one_of (codes "senders") rows ≡ Some (codes "3"))
+        × (one_of (codes "batch") rows ≡ Some (codes "64"))) }
     ensures journal { MeetsWith (codes "journal") (codes "bus" ∷ codes "journal" ∷ [])
         (IsLeftOut (codes "repair")) }
     ensures repair { MeetsWith (codes "journal")

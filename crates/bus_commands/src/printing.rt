@@ -17,7 +17,7 @@ ghost use Rattle.bus_commands.specs.Streams.{WritesPart};
 use crate::streams::write_whole;
 use bus_journal::{Header, push_frames, push_header};
 use bus_logtext::print_words;
-use bus_register::limits::MOST_MESSAGES;
+use bus_register::limits::LOG_MESSAGES;
 use bus_run::limits::MOST_MESSAGES_EACH;
 use bus_run::{OpenGate, Report, RunFault, report_text, run};
 use bus_script::Outcome;
@@ -140,7 +140,7 @@ fn run_journal(alloc: Global, words: &[u64], senders: u64) -> Result<Vec<u8>, Al
 {
     let header = Header {
         senders,
-        most: MOST_MESSAGES as u64,
+        most: LOG_MESSAGES as u64,
         place: 0,
         first: vec![in alloc; 0u64; senders as usize]?,
     };

@@ -5,9 +5,9 @@ use Rattle.std.proofs.lemmas.Bool.{cases_lt}
 use Rattle.std.proofs.lemmas.List.{length-take, get_or-take}
 use Rattle.bus_register.specs.declared.registers.SenderNo.{SenderNo}
 use Rattle.bus_batch.specs.declared.messages.Item.{Item}
-use Rattle.bus_batch.specs.Frames.{Order, Says, Leaves, Spells, BeginsLog}
+use Rattle.bus_batch.specs.Frames.{Order, Says, Leaves, SpellsOf, BeginsLogOf}
 use Rattle.bus_deliverylog.specs.Orders.{IsPrefixOfOrder}
-use Rattle.bus_deliverylog.specs.Logs.{IsFirstBad, IsTorn}
+use Rattle.bus_deliverylog.specs.Logs.{IsFirstBadOf, IsTornOf}
 use Rattle.bus_deliverylog.proofs.ReadLaws.{spells_begin, front_begins}
 
 -- ---- prefixes
@@ -44,21 +44,22 @@ none_leaves_early s a h =
     let e : Says a ∷ Leaves s ∷ [] ≡ Leaves s ∷ h.later = h.entries in absurd cc
 
 -- ---- faults
-pub whole_not_torn : (senders : ℕ) (words : List ℕ) (order : Order) (owners : List (ℕ × SenderNo))
-    → Spells senders words order owners → IsTorn senders words → ⊥
-whole_not_torn senders words order owners s torn =
+pub whole_not_torn : (most senders : ℕ) (words : List ℕ) (order : Order)
+    (owners : List (ℕ × SenderNo)) → SpellsOf most senders words order owners
+    → IsTornOf most senders words → ⊥
+whole_not_torn most senders words order owners s torn =
     torn.unfinished (record { frames = s.frames; lawful = s.lawful; words_are = s.words_are })
 
 pub whole_not_bad :
-    (senders : ℕ) (words : List ℕ) (order : Order) (owners : List (ℕ × SenderNo)) (place : ℕ)
-    → Spells senders words order owners → IsFirstBad senders words place → ⊥
-whole_not_bad senders words order owners place s first =
-    first.bad (spells_begin senders place words order owners first.below s)
+    (most senders : ℕ) (words : List ℕ) (order : Order) (owners : List (ℕ × SenderNo)) (place : ℕ)
+    → SpellsOf most senders words order owners → IsFirstBadOf most senders words place → ⊥
+whole_not_bad most senders words order owners place s first =
+    first.bad (spells_begin most senders place words order owners first.below s)
 
-pub torn_not_bad : (senders : ℕ) (words : List ℕ) (place : ℕ) → IsTorn senders words
-    → IsFirstBad senders words place → ⊥
-torn_not_bad senders words place torn first =
-    first.bad (front_begins senders place words first.below torn.good)
+pub torn_not_bad : (most senders : ℕ) (words : List ℕ) (place : ℕ) → IsTornOf most senders words
+    → IsFirstBadOf most senders words place → ⊥
+torn_not_bad most senders words place torn first =
+    first.bad (front_begins most senders place words first.below torn.good)
 
 take_within : (p q : ℕ) (xs : List ℕ) → p ≤ q → take p (take q xs) ≡ take p xs
 take_within zero q xs h = refl
@@ -67,23 +68,24 @@ take_within (suc p) (suc q) [] h = refl
 take_within (suc p) (suc q) (x ∷ xs) h = ap (λ z. x ∷ z) (take_within p q xs (omega arith))
 
 -- nothing behind a bad word is good
-none_behind : (senders : ℕ) (words : List ℕ) (p q : ℕ) → p < q → IsFirstBad senders words p
-    → IsFirstBad senders words q → ⊥
-none_behind senders words p q before first second =
+none_behind : (most senders : ℕ) (words : List ℕ) (p q : ℕ) → p < q
+    → IsFirstBadOf most senders words p → IsFirstBadOf most senders words q → ⊥
+none_behind most senders words p q before first second =
     let size = length-take q words in let below = second.below in
-    let begins : BeginsLog senders (take p (take q words) ++ get_or (take q words) p 0 ∷ []) =
-    front_begins senders p (take q words) (omega arith) second.good in
-    first.bad (subst (λ z. BeginsLog senders (take p words ++ z ∷ []))
+    let begins : BeginsLogOf most senders
+    (take p (take q words) ++ get_or (take q words) p 0 ∷ []) =
+    front_begins most senders p (take q words) (omega arith) second.good in
+    first.bad (subst (λ z. BeginsLogOf most senders (take p words ++ z ∷ []))
     (get_or-take q words p 0 before)
-    (subst (λ z. BeginsLog senders (z ++ get_or (take q words) p 0 ∷ []))
+    (subst (λ z. BeginsLogOf most senders (z ++ get_or (take q words) p 0 ∷ []))
     (take_within p q words (omega arith)) begins))
 
-pub one_first : (senders : ℕ) (words : List ℕ) (place other : ℕ) → IsFirstBad senders words place
-    → IsFirstBad senders words other → place ≡ other
-one_first senders words place other h k = elim (cases_lt place other) [
-  | inl before ↦ absurd (none_behind senders words place other before h k)
+pub one_first : (most senders : ℕ) (words : List ℕ) (place other : ℕ)
+    → IsFirstBadOf most senders words place → IsFirstBadOf most senders words other → place ≡ other
+one_first most senders words place other h k = elim (cases_lt place other) [
+  | inl before ↦ absurd (none_behind most senders words place other before h k)
   | inr from ↦ elim (cases_lt other place) [
-    | inl behind ↦ absurd (none_behind senders words other place behind k h)
+    | inl behind ↦ absurd (none_behind most senders words other place behind k h)
     | inr there ↦ omega arith
   ]
 ]

@@ -10,9 +10,9 @@ use Rattle.std.proofs.lemmas.List.Folds.{list_any-append}
 use Rattle.std.proofs.Math.Seq.{drop-cons}
 use Rattle.bus_register.specs.declared.registers.SenderNo.{SenderNo}
 use Rattle.bus_batch.specs.declared.messages.Piece.{Piece}
-use Rattle.bus_batch.specs.Frames.{Order, Entry, Spells, BeginsLog, piece_entries, piece_owners}
+use Rattle.bus_batch.specs.Frames.{Order, Entry, SpellsOf, BeginsLogOf, piece_entries, piece_owners}
 use Rattle.bus_batch.specs.Frames.{is_end}
-use Rattle.bus_batch.specs.Reading.{Reading, HasRead}
+use Rattle.bus_batch.specs.Reading.{Reading, HasRead, HasReadOf}
 use Rattle.bus_batch.proofs.PieceLaws.{order_made}
 use Rattle.bus_deliverylog.specs.Logs.{Reads}
 
@@ -48,19 +48,19 @@ reads_more senders word words words' old new order order' owners owners' found r
     }
 
 -- words that were read begin a log
-pub begins : (senders : ℕ) (words : List ℕ) (pieces : List (Option Piece)) (reader : Reading)
-    → HasRead senders words pieces reader → BeginsLog senders words
-begins senders words pieces reader had =
+pub begins : (most senders : ℕ) (words : List ℕ) (pieces : List (Option Piece)) (reader : Reading)
+    → HasReadOf most senders words pieces reader → BeginsLogOf most senders words
+begins most senders words pieces reader had =
     let some = had.begins in
     let log = had.leads some.0 some.1 some.2 in
     (some.0, record { frames = log.0; lawful = log.1; words_are = log.2 })
 
 -- words that are a log begin one at each place
 pub spells_begin :
-    (senders place : ℕ) (words : List ℕ) (order : Order) (owners : List (ℕ × SenderNo))
-    → place < length words → Spells senders words order owners
-    → BeginsLog senders (take place words ++ get_or words place 0 ∷ [])
-spells_begin senders place words order owners below s = (
+    (most senders place : ℕ) (words : List ℕ) (order : Order) (owners : List (ℕ × SenderNo))
+    → place < length words → SpellsOf most senders words order owners
+    → BeginsLogOf most senders (take place words ++ get_or words place 0 ∷ [])
+spells_begin most senders place words order owners below s = (
   drop (suc place) words,
   record {
     frames = s.frames;
@@ -74,9 +74,10 @@ spells_begin senders place words order owners below s = (
 )
 
 -- words that begin a log begin one at each place
-pub front_begins : (senders place : ℕ) (words : List ℕ) → place < length words
-    → BeginsLog senders words → BeginsLog senders (take place words ++ get_or words place 0 ∷ [])
-front_begins senders place words below log = (
+pub front_begins : (most senders place : ℕ) (words : List ℕ) → place < length words
+    → BeginsLogOf most senders words
+    → BeginsLogOf most senders (take place words ++ get_or words place 0 ∷ [])
+front_begins most senders place words below log = (
   drop (suc place) words ++ log.0,
   record {
     frames = log.1.frames;

@@ -6,14 +6,14 @@ ghost use Rattle.bus_register.specs.Words.{register, after};
 ghost use Rattle.bus_register.specs.Tables.{Beside};
 ghost use Rattle.bus_register.specs.declared.kinds.Kind.TheVariants as kind;
 ghost use Rattle.bus_register.specs.declared.registers.Op.TheVariants as op;
-ghost use Rattle.bus_batch.specs.Frames.{Frame, IsFrame, frame_words, Spells, entries_of, ends};
+ghost use Rattle.bus_batch.specs.Frames.{Frame, IsFrame, frame_words, Spells, SpellsOf, entries_of};
 ghost use Rattle.bus_batch.specs.Frames.{tenure_and_owner, order_in, owners_in, has_gone, IsLog};
-ghost use Rattle.bus_batch.specs.Frames.{Entry, Says, Leaves, items_in};
+ghost use Rattle.bus_batch.specs.Frames.{Entry, Says, Leaves, items_in, ends};
 ghost use Rattle.bus_register.specs.declared.registers.SenderNo.{SenderNo};
 ghost use Rattle.bus_batch.specs.Reading.{Reading, HasRead};
 ghost use Rattle.bus_batch.specs.declared.messages.Item.{Item};
 ghost use Rattle.bus_deliverylog.specs.Orders.{IsPrefixOfOrder, merged, AreMarks};
-ghost use Rattle.bus_deliverylog.specs.Logs.{IsFirstBad, IsTorn};
+ghost use Rattle.bus_deliverylog.specs.Logs.{IsFirstBadOf, IsTornOf};
 ghost use Rattle.bus_deliverylog.specs.Writing.{Writing, writing_kind, writing_op, writing_fed};
 ghost use Rattle.bus_deliverylog.specs.Receiving.{Receiving, HasReceived, TakesPassed, reading_of};
 ghost use Rattle.bus_deliverylog.specs.Receiving.{passing_due, receiving_kind, receiving_op};
@@ -105,16 +105,18 @@ pub fn merged_is_one_list()
         × (merged items marks ≡ front ++ Leaves s ∷ rest) × (length (items_in front) ≡ place) }
 {}
 
-/// Words that are a log have no fault, and words that are none have one alone.
+/// Words that are a log have no fault, and words that are none have one alone: however many
+/// messages a frame may have.
 pub fn readings_are_exact()
-    ensures whole { (senders : ℕ) (words : List ℕ) (order : _) (owners : _)
-        → Spells senders words order owners → ¬ IsTorn senders words }
-    ensures good { (senders : ℕ) (words : List ℕ) (order : _) (owners : _) (place : ℕ)
-        → Spells senders words order owners → ¬ IsFirstBad senders words place }
-    ensures torn { (senders : ℕ) (words : List ℕ) (place : ℕ) → IsTorn senders words
-        → ¬ IsFirstBad senders words place }
-    ensures first { (senders : ℕ) (words : List ℕ) (place : ℕ) (other : ℕ)
-        → IsFirstBad senders words place → IsFirstBad senders words other → place ≡ other }
+    ensures whole { (most senders : ℕ) (words : List ℕ) (order : _) (owners : _)
+        → SpellsOf most senders words order owners → ¬ IsTornOf most senders words }
+    ensures good { (most senders : ℕ) (words : List ℕ) (order : _) (owners : _) (place : ℕ)
+        → SpellsOf most senders words order owners → ¬ IsFirstBadOf most senders words place }
+    ensures torn { (most senders : ℕ) (words : List ℕ) (place : ℕ) → IsTornOf most senders words
+        → ¬ IsFirstBadOf most senders words place }
+    ensures first { (most senders : ℕ) (words : List ℕ) (place : ℕ) (other : ℕ)
+        → IsFirstBadOf most senders words place → IsFirstBadOf most senders words other
+        → place ≡ other }
 {}
 
 /// A receiver that has a passed place is to store its place there exactly where what it has read

@@ -17,6 +17,8 @@ use Rattle.bus_world.specs.declared.shapes.MakeFault.{MakeFault}
 use Rattle.bus_world.specs.declared.shapes.MakeFault.TheVariants as make
 use Rattle.bus_handles.specs.declared.answers.BusNotEnded.{BusNotEnded}
 use Rattle.bus_handles.specs.declared.answers.BusNotEnded.TheVariants as left
+use Rattle.bus_handles.specs.declared.answers.RingFault.{RingFault}
+use Rattle.bus_handles.specs.declared.answers.RingFault.TheVariants as ring
 use Rattle.bus_embed.specs.declared.codes.TheConstants as code
 use Rattle.bus_embed.specs.declared.answers.TurnAnswer.{TurnAnswer}
 use Rattle.bus_embed.specs.declared.answers.HeardItem.{HeardItem}
@@ -50,9 +52,14 @@ make_code make.Receivers = code.BAD_RECEIVERS
 make_code make.Rounds = code.BAD_ROUNDS
 make_code make.Rows = code.BAD_ROWS
 make_code make.LogWords = code.BAD_LOG_WORDS
+make_code make.Batch = code.BAD_BATCH
 make_code make.NotEnded = code.NOT_ENDED
 make_code make.Numbers = code.NUMBERS_USED
 make_code make.NoMemory = code.NO_MEMORY
+
+abbrev pub open_code : RingFault → ℕ
+open_code (ring.Make why) = make_code why
+open_code ring.ShortLog = code.SHORT_RING
 
 abbrev pub put_fault_code : PutFault → ℕ
 put_fault_code put.Closed = code.PUT_CLOSED

@@ -5,20 +5,20 @@ ghost use Rattle.std.specs.Prelude.{slice_index, false};
 ghost use Rattle.bus_register.specs.declared.registers.SenderNo.{SenderNo as Number};
 ghost use Rattle.bus_batch.specs.Frames.{Order, Spells};
 ghost use Rattle.bus_deliverylog.specs.Orders.{of_sender};
-ghost use Rattle.bus_handles.specs.Handles.{IsOpened};
-ghost use Rattle.bus_machine.specs.Playing.{IsServed, MakeRefused, IsFollowedBy};
-ghost use Rattle.bus_automaton.specs.Buses.{plan_passers, Refuses};
+ghost use Rattle.bus_handles.specs.Handles.{IsOpened, HoldsFrames, OpenRefused};
+ghost use Rattle.bus_machine.specs.Playing.{IsServedWith, IsFollowedBy};
+ghost use Rattle.bus_automaton.specs.Buses.{plan_passers};
 ghost use Rattle.bus_automaton.specs.ThreeWordBuses.{process, automaton};
-ghost use Rattle.bus_embed.specs.Buses.{plan_of, page_of, shape_of};
-ghost use Rattle.bus_embed.specs.Answers.{make_code};
+ghost use Rattle.bus_embed.specs.Buses.{plan_of, page_of, shape_of, batch_in};
+ghost use Rattle.bus_embed.specs.Answers.{make_code as spec_make_code, open_code};
 ghost use Rattle.bus_embed.specs.Ends.{EndAnswered, IsLeftBy, BeginsPage, NotesSender};
 ghost use Rattle.bus_embed.specs.Ends.{CountsItems};
 
 use crate::codes;
 use crate::writing::write_over;
 use bus_handles::{
-    BusNotEnded, Ended, MOST_SENDERS, MakeFault, Page, ReceiverHandle, SenderHandle, SenderNo,
-    Shape, ThreeWord, open, open_after, open_cyclic, open_ring,
+    BusNotEnded, Ended, LOG_MESSAGES, MOST_MESSAGES, MOST_SENDERS, MakeFault, Page, ReceiverHandle,
+    RingFault, SenderHandle, SenderNo, Shape, ThreeWord, open, open_after, open_cyclic, open_ring,
 };
 use std::alloc::Global;
 
@@ -30,12 +30,14 @@ pub struct Sizes {
     pub rounds: u64,
     /// 1 to 256; where rows are used again 2 to 8.
     pub rows: u64,
-    /// 16 to 65,536.
+    /// 16 to 65,536; of a ring at least 1 + 8 B, where a batch has at most B messages.
     pub log_words: u64,
     /// Rows of words are used again.
     pub again: bool,
     /// The log is a ring: its words are used again, and so are rows, whatever `again` says.
     pub ring: bool,
+    /// Messages of one batch: of a ring 1 to 64, and else 16. 0 says the most, 64 of a ring.
+    pub batch: u64,
 }
 
 /// What a bus leaves behind, beside the words of its log.
@@ -68,21 +70,25 @@ pub fn open_bus(
     sizes: Sizes,
     senders: u64,
     receivers: u64,
-) -> Result<(Vec<SenderHandle<ThreeWord>>, Vec<ReceiverHandle<ThreeWord>>), MakeFault>
+) -> Result<(Vec<SenderHandle<ThreeWord>>, Vec<ReceiverHandle<ThreeWord>>), RingFault>
     ensures opened { let plan = plan_of sizes senders receivers None in
         IfOk result (λ made. IsOpened process (automaton plan) plan made.0.items made.1.items) }
     ensures served { let plan = plan_of sizes senders receivers None in
-        IfOk result (λ _. IsServed plan.shape plan.reuse) }
+        OnOk result (IsServedWith (plan_passers plan) plan.shape plan.reuse × HoldsFrames plan) }
     ensures fault { let plan = plan_of sizes senders receivers None in
-        IfErr result (MakeRefused plan.shape plan.reuse) }
+        IfErr result (OpenRefused plan None) }
 {
     let shape = sizes.shape(senders, receivers);
-    if sizes.ring {
-        open_ring::<ThreeWord>(alloc, shape, None)
+    let opened = if sizes.ring {
+        return open_ring::<ThreeWord>(alloc, shape, None);
     } else if sizes.again {
         open_cyclic::<ThreeWord>(alloc, shape, None)
     } else {
         open::<ThreeWord>(alloc, shape)
+    };
+    match opened {
+        Ok(handles) => Ok(handles),
+        Err(fault) => Err(RingFault::Make(fault)),
     }
 }
 
@@ -95,24 +101,28 @@ pub fn open_bus_after(
     senders: u64,
     receivers: u64,
     left: &Left,
-) -> Result<(Vec<SenderHandle<ThreeWord>>, Vec<ReceiverHandle<ThreeWord>>), MakeFault>
+) -> Result<(Vec<SenderHandle<ThreeWord>>, Vec<ReceiverHandle<ThreeWord>>), RingFault>
     ensures opened { let plan = plan_of sizes senders receivers (Some left.now) in
         IfOk result (λ made. IsOpened process (automaton plan) plan made.0.items made.1.items) }
     ensures served { let plan = plan_of sizes senders receivers (Some left.now) in
-        IfOk result (λ _. IsServed plan.shape plan.reuse) }
+        OnOk result (IsServedWith (plan_passers plan) plan.shape plan.reuse × HoldsFrames plan) }
     ensures follows { let plan = plan_of sizes senders receivers (Some left.now) in
-        OnOk result (IsFollowedBy (plan_passers plan) (page_of left.now)) }
+        OnOk result (IsFollowedBy (plan_passers plan) plan.shape.batch (page_of left.now)) }
     ensures fault { let plan = plan_of sizes senders receivers (Some left.now) in
-        IfErr result (Refuses plan (Some (page_of left.now))) }
+        IfErr result (OpenRefused plan (Some (page_of left.now))) }
 {
     let shape = sizes.shape(senders, receivers);
     let page = left.page();
-    if sizes.ring {
-        open_ring::<ThreeWord>(alloc, shape, Some(&page))
+    let opened = if sizes.ring {
+        return open_ring::<ThreeWord>(alloc, shape, Some(&page));
     } else if sizes.again {
         open_cyclic::<ThreeWord>(alloc, shape, Some(&page))
     } else {
         open_after::<ThreeWord>(alloc, shape, &page)
+    };
+    match opened {
+        Ok(handles) => Ok(handles),
+        Err(fault) => Err(RingFault::Make(fault)),
     }
 }
 
@@ -127,6 +137,21 @@ impl Sizes {
             rounds: self.rounds,
             rows: self.rows,
             log_words: self.log_words,
+            batch: self.most_messages(),
+        }
+    }
+
+    /// How many messages a batch may have: those that it says, or the most.
+    fn most_messages(self) -> u64
+        ensures { result ≡ batch_in self.ring self.batch }
+    {
+        if self.batch != 0 {
+            return self.batch;
+        }
+        if self.ring {
+            MOST_MESSAGES as u64
+        } else {
+            LOG_MESSAGES as u64
         }
     }
 }
@@ -252,9 +277,19 @@ fn bases_of(ended: &Ended) -> [u64; MOST_SENDERS]
     bases
 }
 
-/// The code of a fault.
-pub fn refused_code(fault: MakeFault) -> u32
-    ensures { result ≡ make_code fault }
+/// The code of why no bus was opened.
+pub fn refused_code(fault: RingFault) -> u32
+    ensures { result ≡ open_code fault }
+{
+    match fault {
+        RingFault::Make(why) => make_code(why),
+        RingFault::ShortLog => codes::SHORT_RING,
+    }
+}
+
+/// The code of why no bus is made.
+fn make_code(fault: MakeFault) -> u32
+    ensures { result ≡ spec_make_code fault }
 {
     match fault {
         MakeFault::Senders => codes::BAD_SENDERS,
@@ -262,6 +297,7 @@ pub fn refused_code(fault: MakeFault) -> u32
         MakeFault::Rounds => codes::BAD_ROUNDS,
         MakeFault::Rows => codes::BAD_ROWS,
         MakeFault::LogWords => codes::BAD_LOG_WORDS,
+        MakeFault::Batch => codes::BAD_BATCH,
         MakeFault::NotEnded => codes::NOT_ENDED,
         MakeFault::Numbers => codes::NUMBERS_USED,
         MakeFault::NoMemory => codes::NO_MEMORY,

@@ -56,7 +56,7 @@ pub const PUT_CLOSED: u32 = 38;
 pub const PUT_BUSY: u32 = 39;
 /// No put: more than 56 bytes.
 pub const PUT_TOO_LONG: u32 = 40;
-/// No put: 16 messages wait.
+/// No put: as many messages wait as a batch of the bus may have.
 pub const PUT_BATCH_FULL: u32 = 41;
 /// No close or leave: one was accepted, or the order is known to have ended.
 pub const CLOSE_CLOSED: u32 = 42;
@@ -72,7 +72,8 @@ pub const PAGE_OUT: u32 = 46;
 pub const EMPTY_HANDLE: u32 = 47;
 /// No bus: the order of the bus that it is to go on after has not ended. 48 is the header's own.
 pub const NOT_ENDED: u32 = 49;
-/// No bus: a sender's next number is 2^48 - 65,536 or more; of a ring 2^48 - 2^44 - 16 or more.
+/// No bus: a sender's next number is 2^48 - 65,536 or more; of a ring with batches of B messages
+/// 2^48 - B * (2^40 + 1) or more.
 pub const NUMBERS_USED: u32 = 50;
 /// Two handles are of two buses.
 pub const OTHER_BUS: u32 = 51;
@@ -84,3 +85,8 @@ pub const NEVER_FITS: u32 = 53;
 pub const NO_SEAT: u32 = 54;
 /// No fork: the handle that is to hold the new receiver holds one.
 pub const USED_HANDLE: u32 = 55;
+/// No bus: messages of a batch are not 1 to 64, or where the log is no ring not 16.
+pub const BAD_BATCH: u32 = 56;
+/// No bus: the log of a ring has fewer words than its longest frame, which is 1 + 8 B where a batch
+/// has at most B messages.
+pub const SHORT_RING: u32 = 57;

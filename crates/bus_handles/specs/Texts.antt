@@ -2,6 +2,7 @@
 use Rattle.std.specs.Prelude.{ℕ, List, ◌++◌, codes}
 use Rattle.bus_batch.specs.Faults.{close_fault_text}
 use Rattle.bus_tenure.specs.Text.{turn_text}
+use Rattle.bus_world.specs.Faults.{make_fault_text}
 use Rattle.bus_handles.specs.declared.answers.ForkFault.{ForkFault}
 use Rattle.bus_handles.specs.declared.answers.ForkFault.TheVariants as fork
 use Rattle.bus_handles.specs.declared.answers.NotDelivered.{NotDelivered}
@@ -10,6 +11,8 @@ use Rattle.bus_handles.specs.declared.answers.OrderNotEnded.{OrderNotEnded}
 use Rattle.bus_handles.specs.declared.answers.OrderNotEnded.TheVariants as order
 use Rattle.bus_handles.specs.declared.answers.BusNotEnded.{BusNotEnded}
 use Rattle.bus_handles.specs.declared.answers.BusNotEnded.TheVariants as bus
+use Rattle.bus_handles.specs.declared.answers.RingFault.{RingFault}
+use Rattle.bus_handles.specs.declared.answers.RingFault.TheVariants as ring
 use Rattle.bus_handles.specs.declared.pages.NoPage.{NoPage}
 use Rattle.bus_handles.specs.declared.pages.NoPage.TheVariants as page
 
@@ -38,3 +41,8 @@ bus_not_ended_text bus.PageOut = codes "a sender has not given the page back"
 abbrev pub fork_fault_text : ForkFault → List ℕ
 fork_fault_text fork.NoSeat = codes "each number above the receiver's own was taken"
 fork_fault_text fork.NoMemory = codes "no memory"
+
+abbrev pub ring_fault_text : RingFault → List ℕ
+ring_fault_text (ring.Make why) = make_fault_text why
+ring_fault_text ring.ShortLog =
+    codes "a ring shorter than its longest frame: one word, and eight a message"

@@ -4,10 +4,11 @@ ghost use Rattle.std.specs.Prelude.{◌≡◌, ◌≢◌, true, Some, IfOk, IfEr
 ghost use Rattle.bus_tenure.specs.Classes.{is_last};
 ghost use Rattle.bus_handles.specs.Answers.{delivered_turn, IsWhy};
 ghost use Rattle.bus_handles.specs.Texts.{not_delivered_text, order_not_ended_text};
-ghost use Rattle.bus_handles.specs.Texts.{bus_not_ended_text, fork_fault_text};
+ghost use Rattle.bus_handles.specs.Texts.{bus_not_ended_text, fork_fault_text, ring_fault_text};
 
 use bus_batch::CloseFault;
 use bus_tenure::Turn;
+use bus_world::MakeFault;
 use std::error::Error;
 use std::fmt;
 
@@ -98,6 +99,31 @@ impl fmt::Display for BusNotEnded {
             BusNotEnded::InUse => "other handles have the bus still",
             BusNotEnded::PageOut => "a sender has not given the page back",
         })
+    }
+}
+
+/// Why no ring was opened.
+#[derive(Clone, Copy, Debug, PartialEq, Eq)]
+pub enum RingFault {
+    /// No such bus is made.
+    Make(MakeFault),
+    /// Its log has fewer words than its longest frame, which is 1 + 8 B, where a batch has at most
+    /// B messages: 513 where that is 64. So no batch is longer than the log of a ring.
+    ShortLog,
+}
+
+impl Error for RingFault {}
+
+impl fmt::Display for RingFault {
+    ghost output = { λ why. Some (ring_fault_text why) };
+
+    fn fmt<W: fmt::Write>(&self, f: &mut fmt::Formatter<W>) -> fmt::Result {
+        match self {
+            RingFault::Make(why) => why.fmt(f),
+            RingFault::ShortLog => {
+                f.write_str("a ring shorter than its longest frame: one word, and eight a message")
+            }
+        }
     }
 }
 

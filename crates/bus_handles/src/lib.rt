@@ -34,13 +34,15 @@ mod pages;
 mod receivers;
 mod senders;
 
-pub use answers::{BusNotEnded, Delivered, ForkFault, NotDelivered, OrderNotEnded, answered};
+pub use answers::{
+    BusNotEnded, Delivered, ForkFault, NotDelivered, OrderNotEnded, RingFault, answered,
+};
 pub use bus_receiver::{
-    CloseFault, Ended, Found, Heard, Item, ItemTurn, Kind, LEAST_LOG_WORDS, LEAST_ROWS_AGAIN, Left,
-    LogFault, LogRead, MOST_BYTES, MOST_LOG_WORDS, MOST_MESSAGES, MOST_RECEIVERS, MOST_ROUNDS,
-    MOST_ROWS, MOST_ROWS_AGAIN, MOST_SENDERS, MakeFault, Message, NeverFits, Next, Order, Page,
-    PutFault, RecvTurn, SendFault, SenderNo, Shape, ThreeWord, Turn, TwoCollect, Unsent, read_log,
-    room_to_close, tenures_needed, words_needed,
+    CloseFault, Ended, Found, Heard, Item, ItemTurn, Kind, LEAST_LOG_WORDS, LEAST_ROWS_AGAIN,
+    LOG_MESSAGES, Left, LogFault, LogRead, MOST_BYTES, MOST_LOG_WORDS, MOST_MESSAGES,
+    MOST_RECEIVERS, MOST_ROUNDS, MOST_ROWS, MOST_ROWS_AGAIN, MOST_SENDERS, MakeFault, Message,
+    NeverFits, Next, Order, Page, PutFault, RecvTurn, SendFault, SenderNo, Shape, ThreeWord, Turn,
+    TwoCollect, Unsent, read_log, room_to_close, tenures_needed, words_needed,
 };
 pub use bus_waiting::{SharedBell, Waiter, Waiting};
 pub use opening::{open, open_after, open_cyclic, open_ring};

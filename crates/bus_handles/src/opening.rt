@@ -1,21 +1,24 @@
 //! How a bus is opened: all its handles in one call.
 
-ghost use Rattle.std.specs.Prelude.{All, ◌≡◌, Some, None, IfOk, OnOk, IfErr};
+ghost use Rattle.std.specs.Prelude.{All, ◌≡◌, ◌↔◌, Some, None, IfOk, OnOk, IfErr, IsTrue};
 ghost use Rattle.std.specs.Option.{option_copied};
-ghost use Rattle.bus_machine.specs.Playing.{IsServed, MakeRefused, IsFollowed, AfterRefused};
+ghost use Rattle.bus_machine.specs.Playing.{MakeRefused, IsFollowed, AfterRefused};
 ghost use Rattle.bus_machine.specs.Playing.{MayFollow, MakeRefusedAfter};
-ghost use Rattle.bus_machine.specs.Playing.{MayGoOn, RefusedWith};
+ghost use Rattle.bus_machine.specs.Playing.{IsServedWith, MayGoOn, RefusedWith};
 ghost use Rattle.bus_automaton.specs.Buses.{process_by, automaton_by, new_plan, cyclic_plan};
 ghost use Rattle.bus_automaton.specs.Buses.{ring_plan};
 ghost use Rattle.bus_pageslot.specs.Seats.{table_of};
-ghost use Rattle.bus_handles.specs.Handles.{seats_of, IsOpened};
+ghost use Rattle.bus_handles.specs.Handles.{seats_of, IsOpened, HoldsFrames, OpenRefused};
 
+use crate::answers::RingFault;
 use crate::receivers::ReceiverHandle;
 use crate::senders::SenderHandle;
 use bus_adoptcommit::Ratifier;
+use bus_machine::shapes::fault_of;
 use bus_pageslot::{Bus, Sender, Tap};
 use bus_receiver::{Page, Receiver};
 use bus_register::NoMemory;
+use bus_register::limits::{MOST_MESSAGE_WORDS, MOST_MESSAGES};
 use bus_waiting::SharedBell;
 use bus_world::{MakeFault, Shape};
 use rand_pcg::Pcg32;
@@ -32,7 +35,7 @@ pub fn open<Q: Ratifier + Drop>(
     ensures opened { let plan = new_plan shape None in
         IfOk result (λ made. IsOpened (process_by Q.Ratifier) (automaton_by Q.Ratifier plan)
         plan made.0.items made.1.items) }
-    ensures served { IfOk result (λ _. IsServed shape None) }
+    ensures served { OnOk result (IsServedWith 0 shape None) }
     ensures fault { IfErr result (MakeRefused shape None) }
 {
     let (bus, senders, taps) = Bus::<Q>::new(alloc, shape)?;
@@ -54,7 +57,7 @@ pub fn open_after<Q: Ratifier + Drop>(
     ensures opened { let plan = new_plan shape (Some page.now) in
         IfOk result (λ made. IsOpened (process_by Q.Ratifier) (automaton_by Q.Ratifier plan)
         plan made.0.items made.1.items) }
-    ensures served { IfOk result (λ _. IsServed shape None) }
+    ensures served { OnOk result (IsServedWith 0 shape None) }
     ensures follows { OnOk result (IsFollowed page.now) }
     ensures fault { IfErr result (AfterRefused shape None page.now) }
 {
@@ -73,7 +76,7 @@ pub fn open_cyclic<Q: Ratifier + Drop>(
     ensures opened { let plan = cyclic_plan shape (option_copied page.entry) in
         IfOk result (λ made. IsOpened (process_by Q.Ratifier) (automaton_by Q.Ratifier plan)
         plan made.0.items made.1.items) }
-    ensures served { IfOk result (λ _. IsServed shape (Some shape.rows)) }
+    ensures served { OnOk result (IsServedWith 0 shape (Some shape.rows)) }
     ensures follows { OnOk result (MayFollow (option_copied page.entry)) }
     ensures fault { IfErr result
         (MakeRefusedAfter shape (Some shape.rows) (option_copied page.entry)) }
@@ -83,10 +86,47 @@ pub fn open_cyclic<Q: Ratifier + Drop>(
     Ok(handles)
 }
 
+/// The sizes and the batches of this ring are served, and its log is shorter than a frame may be.
+fn is_short(shape: Shape) -> bool
+    ensures { let plan = ring_plan shape None in
+        IsTrue result ↔ (IsServedWith shape.receivers shape (Some shape.rows)
+        × (¬ HoldsFrames plan)) }
+{
+    fault_of(shape, Some(shape.rows)).is_none()
+        && 1 <= shape.batch
+        && shape.batch <= MOST_MESSAGES as u64
+        && shape.log_words < 1 + MOST_MESSAGE_WORDS * shape.batch
+}
+
 /// As `open_cyclic`, of a bus whose log is a ring: its words are used again too. So it serves for
 /// as long as it has tenures, which are 2^40, and then senders are answered Spent. With a page it
-/// is the next sitting, as `open_after`.
+/// is the next sitting, as `open_after`. A batch has at most as many messages as the shape says, 1
+/// to 64, and the log has room for the longest batch, or the answer is ShortLog.
 pub fn open_ring<Q: Ratifier + Drop>(
+    alloc: Global,
+    shape: Shape,
+    page: Option<&Page>,
+) -> Result<(Vec<SenderHandle<Q>>, Vec<ReceiverHandle<Q>>), RingFault>
+    ensures opened { let plan = ring_plan shape (option_copied page.entry) in
+        IfOk result (λ made. IsOpened (process_by Q.Ratifier) (automaton_by Q.Ratifier plan)
+        plan made.0.items made.1.items) }
+    ensures served { OnOk result (IsServedWith shape.receivers shape (Some shape.rows)) }
+    ensures follows { OnOk result (MayGoOn shape.receivers shape.batch (option_copied page.entry)) }
+    ensures holds { let plan = ring_plan shape None in OnOk result (HoldsFrames plan) }
+    ensures fault { let plan = ring_plan shape None in
+        IfErr result (OpenRefused plan (option_copied page.entry)) }
+{
+    if is_short(shape) {
+        return Err(RingFault::ShortLog);
+    }
+    match opened_ring(alloc, shape, page) {
+        Ok(handles) => Ok(handles),
+        Err(fault) => Err(RingFault::Make(fault)),
+    }
+}
+
+/// The handles of a ring, however short its log is.
+fn opened_ring<Q: Ratifier + Drop>(
     alloc: Global,
     shape: Shape,
     page: Option<&Page>,
@@ -94,8 +134,8 @@ pub fn open_ring<Q: Ratifier + Drop>(
     ensures opened { let plan = ring_plan shape (option_copied page.entry) in
         IfOk result (λ made. IsOpened (process_by Q.Ratifier) (automaton_by Q.Ratifier plan)
         plan made.0.items made.1.items) }
-    ensures served { IfOk result (λ _. IsServed shape (Some shape.rows)) }
-    ensures follows { OnOk result (MayGoOn shape.receivers (option_copied page.entry)) }
+    ensures served { OnOk result (IsServedWith shape.receivers shape (Some shape.rows)) }
+    ensures follows { OnOk result (MayGoOn shape.receivers shape.batch (option_copied page.entry)) }
     ensures fault { IfErr result
         (RefusedWith shape.receivers shape (Some shape.rows) (option_copied page.entry)) }
 {

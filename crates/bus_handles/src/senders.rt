@@ -154,7 +154,7 @@ impl<Q: Ratifier + Drop, R: Rng + Drop> SenderHandle<Q, R> {
         self.sender.pending()
     }
 
-    /// How many messages its batch has at most: as many as its bus says, 1 to 16.
+    /// How many messages its batch has at most: as many as its bus says, 1 to 64.
     pub fn batch_limit(&self) -> u64
         ensures limit { result ≡ limit_of (process_by Q.Ratifier) self.now }
         ensures bus { result ≡ ((process_by Q.Ratifier).table_layout self.now.core).batch }
@@ -252,9 +252,10 @@ impl<Q: Ratifier + Drop, R: Rng + Drop> SenderHandle<Q, R> {
         self.sender.turns_left()
     }
 
-    /// Appends a message of at most 56 bytes to its batch of at most 16, and gives its number,
-    /// which counts the messages of this sender from its first number on: that is 0, but where the
-    /// bus went on with the numbers of another. Takes no step. A fault changes nothing.
+    /// Appends a message of at most 56 bytes to its batch, which has at most as many as
+    /// `batch_limit` says, and gives its number. That counts the messages of this sender from its
+    /// first number on: it is 0, but where the bus went on with the numbers of another. Takes no
+    /// step. A fault changes nothing.
     pub fn put(&mut self, bytes: &[u8]) -> Result<u64, PutFault>
         ensures number { let P = process_by Q.Ratifier in
             IfOk result (λ number. number ≡ next_of (P.queue self.old.core)) }

@@ -10,6 +10,7 @@ use Rattle.std.proofs.lemmas.List.{map_push, take_all, length-take-le, take-appe
 use Rattle.std.proofs.lemmas.List.{get_or-append_right}
 use Rattle.std.specs.Prelude.{◌||◌, Bool, true, false, IsTrue, ◌↔◌, flat_map}
 use Rattle.std.proofs.lemmas.List.Concat.{flat_map-append}
+use Rattle.bus_register.specs.declared.limits.TheConstants.{MOST_MESSAGES}
 use Rattle.bus_register.specs.declared.registers.SenderNo.{SenderNo}
 use Rattle.bus_batch.specs.Frames.{Frame, Order, IsFrame, AreFrames, frame_words, body_words}
 use Rattle.bus_batch.specs.Frames.{order_of, log_words, tenure_and_owner}
@@ -272,10 +273,10 @@ none_skipped h frames f sum behind bytes told a is lawful few lawful' size other
         rest ∙ append_assoc (record_bytes place (frame_words g))
         (records_bytes (place + length (frame_words g)) (map frame_words later))
         (drop a.whole bytes) in
-        let k = frame_is_chunk h.senders 16 f lawful' (body_most f.body lawful'.body) in
+        let k = frame_is_chunk h.senders MOST_MESSAGES f lawful' (body_most f.body lawful'.body) in
         let l = chunks.0 in
-        let heads = sym (chunk_head h.senders 16 (frame_words f) (sum ++ behind) k) in
-        let long = one_length h.senders 16 h.most (frame_words f) (frame_words g)
+        let heads = sym (chunk_head h.senders MOST_MESSAGES (frame_words f) (sum ++ behind) k) in
+        let long = one_length h.senders MOST_MESSAGES h.most (frame_words f) (frame_words g)
         (words_bytes k.body ++ (sum ++ behind))
         (words_bytes l.body ++ (sum_of place (frame_words g) ++ more)) k l
         (heads ∙ parts ∙ record_head h.senders h.most place (frame_words g) more l) in
@@ -327,8 +328,8 @@ none_torn h frames f sum bytes told a is lawful few lawful' size last other e r 
         ∙ ap (λ z. records_bytes place (map frame_words z) ++ drop a.whole bytes)
         (nobody m.later m.longer)
 
-    k : IsChunk h.senders 16 (frame_words f)
-    k = frame_is_chunk h.senders 16 f lawful' (body_most f.body lawful'.body)
+    k : IsChunk h.senders MOST_MESSAGES (frame_words f)
+    k = frame_is_chunk h.senders MOST_MESSAGES f lawful' (body_most f.body lawful'.body)
 
     long : length tail ≡ 8 * (length (frame_words f) + 1)
     long =
@@ -348,10 +349,10 @@ none_torn h frames f sum bytes told a is lawful few lawful' size last other e r 
     not_short senders most (inl few) = absurd (omega (arith, few, long))
     not_short senders most (inr s) =
         let heads = one_word k.head s.0 (words_bytes k.body ++ sum) s.1
-        (head_fits h.senders 16 k.head k.may) (head_fits senders most s.0 s.3)
-        (sym (chunk_head h.senders 16 (frame_words f) sum k) ∙ s.2) in
+        (head_fits h.senders MOST_MESSAGES k.head k.may) (head_fits senders most s.0 s.3)
+        (sym (chunk_head h.senders MOST_MESSAGES (frame_words f) sum k) ∙ s.2) in
         let counts = ap count_of heads.0 in
-        let words = length-chunk h.senders 16 (frame_words f) k in
+        let words = length-chunk h.senders MOST_MESSAGES (frame_words f) k in
         let few = s.4 in
         absurd (omega (arith, few, words, counts, long))
 
@@ -519,7 +520,7 @@ grows_by h frames others =
     (records_bytes (h.place + length (log_words frames)) (map frame_words others)))
 
 pub all_few : (senders least most : ℕ) (frames : List Frame) → AreFramesFrom senders least frames
-    → 16 ≤ most → AreFew most frames
+    → MOST_MESSAGES ≤ most → AreFew most frames
 all_few senders least most [] lawful enough = All-nil (λ f. length (body_words f.body) ≤ 8 * most)
 all_few senders least most (f ∷ frames) lawful enough =
     let words = body_most f.body lawful.0.body in

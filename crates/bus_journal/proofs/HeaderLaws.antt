@@ -8,7 +8,7 @@ use Rattle.std.proofs.lemmas.List.Concat.{flat_map-append}
 use Rattle.std.proofs.lemmas.List.{length-append, append_cancel_left, take_at, take_all, drop_at}
 use Rattle.std.proofs.lemmas.List.{take-take, take-append-le, append-nil}
 use Rattle.std.proofs.lemmas.List.{length-drop, length-take-le, take-append-drop, drop-drop}
-use Rattle.bus_register.specs.declared.limits.TheConstants.{MOST_SENDERS}
+use Rattle.bus_register.specs.declared.limits.TheConstants.{MOST_MESSAGES, MOST_SENDERS}
 use Rattle.bus_journal.specs.Walks.{BeginsHeader}
 use Rattle.std.proofs.lemmas.List.Elements.{All-cons}
 use Rattle.bus_journal.specs.declared.headers.JournalFault.{JournalFault}
@@ -342,7 +342,7 @@ pub damaged_numbers : (senders most place : ℕ) (bytes : List ℕ) → BeginsHe
     ≡ word_bytes most ++ drop 8 (drop 24 (take (40 + 8 * senders) bytes))
     → drop 8 (drop 24 (take (40 + 8 * senders) bytes))
     ≡ word_bytes place ++ drop 8 (drop 8 (drop 24 (take (40 + 8 * senders) bytes)))
-    → (1 ≤ most → most ≤ 64 → place < 2 ^ 63 → ⊥) → IsDamagedHeader bytes
+    → (1 ≤ most → most ≤ MOST_MESSAGES → place < 2 ^ 63 → ⊥) → IsDamagedHeader bytes
 damaged_numbers senders most place bytes b fits fits' e e' never =
     damaged_header senders bytes b (λ h r is k.
     let there = header_there senders bytes b h r is k in

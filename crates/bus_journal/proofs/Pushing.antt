@@ -3,6 +3,7 @@ use Rattle.std.proofs.Common.{◌≡◌, ℕ, ◌+◌, ◌<◌, List, [], ◌∷
 use Rattle.std.proofs.Common.{map, min, refl, sym, ap, subst, ◌∙◌, append_assoc, arith}
 use Rattle.std.proofs.lemmas.List.{length-append, append-nil, take_at, drop_at, map-append}
 use Rattle.std.proofs.lemmas.List.Concat.{flat_map-append}
+use Rattle.bus_register.specs.declared.limits.TheConstants.{MOST_MESSAGES}
 use Rattle.bus_batch.specs.Frames.{Frame, IsFrame, AreFrames, AreFramesFrom, frame_words, log_words}
 use Rattle.bus_batch.proofs.Heads.{body_most}
 use Rattle.bus_journal.specs.Format.{record_bytes, records_bytes}
@@ -43,12 +44,12 @@ next_frame : (senders count head : ℕ) (f : Frame) (left : List Frame) (rest : 
     → IsFrame senders f → frame_words f ++ log_words left ≡ rest → head ≡ get_or rest 0 0
     → count ≡ min (count_of head + 1) (length rest) → count ≡ length (frame_words f)
 next_frame senders count head f left rest lawful e head_is count_is =
-    let k = frame_is_chunk senders 16 f lawful (body_most f.body lawful.body) in
+    let k = frame_is_chunk senders MOST_MESSAGES f lawful (body_most f.body lawful.body) in
     let heads : head ≡ k.head =
     head_is
     ∙ ap (λ z. get_or z 0 0) (sym e ∙ ap (λ z. z ++ log_words left) k.words_are) in
     let counts = ap count_of heads in
-    let size = length-chunk senders 16 (frame_words f) k in
+    let size = length-chunk senders MOST_MESSAGES (frame_words f) k in
     let long = ap length e in
     let parts = length-append (frame_words f) (log_words left) in
     omega (arith, counts, size, long, parts, count_is)

@@ -7,7 +7,7 @@ use Rattle.std.specs.Prelude.{length, take, slice_index, map, All, codes}
 use Rattle.std.specs.List.{flat_map}
 use Rattle.std.specs.Int.{w64, to_be_bytes}
 use Rattle.sha2.specs.Sha256.{sha256}
-use Rattle.bus_register.specs.declared.limits.TheConstants.{MOST_SENDERS}
+use Rattle.bus_register.specs.declared.limits.TheConstants.{MOST_MESSAGES, MOST_SENDERS}
 use Rattle.bus_batch.specs.Frames.{Frame, frame_words}
 
 -- ---- words and checksums
@@ -38,7 +38,7 @@ pub record IsHeading (h : Heading) : Type 0 where
   pub some_senders : 1 ≤ h.senders
   pub most_senders : h.senders ≤ MOST_SENDERS
   pub some_messages : 1 ≤ h.most
-  pub most_messages : h.most ≤ 64
+  pub most_messages : h.most ≤ MOST_MESSAGES
   -- so that each later place is a word
   pub place : h.place < 2 ^ 63
   pub each_sender : length h.first ≡ h.senders

@@ -2,6 +2,7 @@
 
 ghost use Rattle.std.specs.Prelude.{◌≡◌, ◌≢◌, ◌<◌, ◌≤◌, ◌-◌, ◌↔◌, IsTrue, All, length, drop};
 ghost use Rattle.std.specs.Prelude.{slice_index};
+ghost use Rattle.bus_register.specs.declared.limits.TheConstants.{MOST_MESSAGES};
 ghost use Rattle.bus_journal.specs.Records.{IsShort};
 
 use crate::records::head_count;
@@ -22,7 +23,7 @@ ghost use Rattle.bus_journal.specs.Reading.{EndsAs};
 
 /// How bytes end that stand behind the last whole record.
 pub(crate) fn end_of(rest: &[u8], senders: u64, most: u64) -> JournalEnd
-    requires { most ≤ 64 }
+    requires { most ≤ MOST_MESSAGES }
     ensures { EndsAs senders most rest.now result }
 {
     if rest.is_empty() {
@@ -38,7 +39,7 @@ pub(crate) fn end_of(rest: &[u8], senders: u64, most: u64) -> JournalEnd
 
 /// Bytes are less than a record.
 fn is_short(bytes: &[u8], senders: u64, most: u64) -> bool
-    requires { most ≤ 64 }
+    requires { most ≤ MOST_MESSAGES }
     ensures { IsTrue result ↔ IsShort senders most bytes.now }
 {
     if bytes.len() < 8 {

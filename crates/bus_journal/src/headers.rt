@@ -4,7 +4,7 @@ ghost use Rattle.std.specs.Prelude.{◌≡◌, ◌≤◌, ◌++◌, length, take
 ghost use Rattle.bus_journal.specs.Format.{IsHeading, header_bytes};
 
 use crate::bytes::{are_same, checksum_of, first_word, push_words, push_words_of};
-use bus_register::limits::MOST_SENDERS;
+use bus_register::limits::{MOST_MESSAGES, MOST_SENDERS};
 use std::alloc::{AllocError, AllocFailed, Global};
 use std::error::Error;
 use std::fmt;
@@ -16,7 +16,7 @@ const MAGIC: [u8; 8] = [75, 73, 79, 83, 75, 76, 79, 71];
 const VERSION: u64 = 1;
 
 /// Most messages of a batch that a header may say: 64.
-const MOST_BATCH: u64 = 64;
+const MOST_BATCH: u64 = MOST_MESSAGES as u64;
 
 /// One above the greatest place that a header may say: 2^63.
 const PLACES: u64 = 0x8000_0000_0000_0000;

@@ -1,6 +1,7 @@
 //! Whole records behind bytes that look like a tail that was cut off.
 
 ghost use Rattle.std.specs.Prelude.{◌≡◌, ◌+◌, ◌/◌, ◌<◌, ◌≤◌, ◌^◌, ◌↔◌, ℕ, IsTrue, length};
+ghost use Rattle.bus_register.specs.declared.limits.TheConstants.{MOST_MESSAGES};
 ghost use Rattle.bus_journal.specs.Records.{BeginsRecord, HidesRecord};
 
 use crate::ends::JournalEnd;
@@ -8,7 +9,7 @@ use crate::records::{head_count, record_at};
 
 /// Bytes begin with a whole record, behind some and fewer than so many words of frames.
 fn begins_later(bytes: &[u8], senders: u64, most: u64, place: u64, words: u64) -> bool
-    requires most { most ≤ 64 }
+    requires most { most ≤ MOST_MESSAGES }
     requires fits { place + words < 2 ^ 64 }
     ensures { IsTrue result ↔ ((later : ℕ) × (1 ≤ later) × (later < words)
         × BeginsRecord senders most (place + later) bytes.now) }
@@ -26,7 +27,7 @@ fn begins_later(bytes: &[u8], senders: u64, most: u64, place: u64, words: u64) -
 
 /// A journal ends torn, and a whole record of a later place stands in its tail.
 pub(crate) fn is_hiding(end: JournalEnd, rest: &[u8], senders: u64, most: u64, place: u64) -> bool
-    requires most { most ≤ 64 }
+    requires most { most ≤ MOST_MESSAGES }
     requires fits { place + length rest.now / 8 < 2 ^ 64 }
     ensures { IsTrue result ↔ ((end ≡ JournalEnd.Torn) × HidesRecord senders most place rest.now) }
 {
@@ -38,7 +39,7 @@ pub(crate) fn is_hiding(end: JournalEnd, rest: &[u8], senders: u64, most: u64, p
 
 /// A whole record of a later place stands in bytes.
 fn hides_record(bytes: &[u8], senders: u64, most: u64, place: u64) -> bool
-    requires most { most ≤ 64 }
+    requires most { most ≤ MOST_MESSAGES }
     requires fits { place + length bytes.now / 8 < 2 ^ 64 }
     ensures { IsTrue result ↔ HidesRecord senders most place bytes.now }
 {

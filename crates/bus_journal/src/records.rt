@@ -4,6 +4,7 @@ ghost use Rattle.std.specs.Prelude.{◌≡◌, ◌+◌, ◌*◌, ◌≤◌, ◌�
 ghost use Rattle.std.specs.Prelude.{◌<◌, ◌^◌, map, min};
 ghost use Rattle.bus_batch.specs.Frames.{Frame, AreFrames, frame_words, log_words};
 ghost use Rattle.std.specs.Prelude.{OnErr, OnSome, IfSome, IfNone, IsTrue};
+ghost use Rattle.bus_register.specs.declared.limits.TheConstants.{MOST_MESSAGES};
 ghost use Rattle.bus_journal.specs.Format.{word_bytes, record_bytes, records_bytes};
 ghost use Rattle.bus_journal.specs.Records.{IsRecordHead, BeginsHead, BeginsWith, BeginsNone};
 ghost use Rattle.bus_journal.specs.Records.{count_of};
@@ -94,7 +95,7 @@ fn frame_len(head: u64) -> usize
 
 /// A head that may begin a record, by itself.
 fn is_record_head(head: u64, senders: u64, most: u64) -> bool
-    requires { most ≤ 64 }
+    requires { most ≤ MOST_MESSAGES }
     ensures { IsTrue result ↔ IsRecordHead senders most head }
 {
     let owner = head % TAG / OWNER;
@@ -104,7 +105,7 @@ fn is_record_head(head: u64, senders: u64, most: u64) -> bool
 
 /// How many words the frame has, its head's included, with whose head bytes begin.
 pub(crate) fn head_count(bytes: &[u8], senders: u64, most: u64) -> Option<usize>
-    requires { most ≤ 64 }
+    requires { most ≤ MOST_MESSAGES }
     ensures some { IfSome result (BeginsHead senders most bytes.now) }
     ensures long { OnSome result (8 ≤ length bytes.now) }
     ensures none { IfNone result
@@ -126,7 +127,7 @@ pub(crate) fn record_at(
     place: u64,
     room: usize,
 ) -> Option<usize>
-    requires { most ≤ 64 }
+    requires { most ≤ MOST_MESSAGES }
     ensures some { IfSome result (BeginsWith senders most place room bytes.now) }
     ensures long { IfSome result (λ count. 8 * count + 8 ≤ length bytes.now) }
     ensures none { IfNone result (BeginsNone senders most place room bytes.now) }

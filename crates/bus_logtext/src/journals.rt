@@ -13,6 +13,7 @@ ghost use Rattle.bus_logtext.specs.Journals.{outcome_of, IsJournalAnswer, Mends,
 use crate::text::log_text;
 use bus_journal::{Header, JournalEnd, JournalFault, JournalRead, read_journal};
 use bus_register::NoMemory;
+use bus_register::limits::MOST_MESSAGES;
 use bus_script::{Answer, Outcome};
 use std::alloc::{AllocError, Global};
 
@@ -57,7 +58,12 @@ fn journal_text(alloc: Global, read: &JournalRead) -> Result<String, NoMemory>
         → read.now.words.items ≡ log_words frames → string_bytes text
         ≡ journal_text (heading_of read.now.header) frames read.now.end read.now.whole) }
 {
-    let Ok(lines) = log_text(alloc, &read.words, read.header.senders) else {
+    let Ok(lines) = log_text(
+        alloc,
+        &read.words,
+        read.header.senders,
+        MOST_MESSAGES as u64,
+    ) else {
         return Err(NoMemory);
     };
     let mut text = header_text(alloc, &read.header)?;

@@ -2,9 +2,10 @@
 
 ghost use Rattle.std.specs.Prelude.{◌≡◌, ◌≢◌, ℕ, ◌↔◌, ◌^◌, ◌<◌, ◌≤◌, List, [], ◌∷◌, ◌++◌, All};
 ghost use Rattle.std.specs.Prelude.{Some, None, Ok, Err, codes, length, slice_index, ◌⊎◌, ◌+◌};
-ghost use Rattle.bus_register.specs.declared.limits.TheConstants.{MOST_LOG_WORDS};
-ghost use Rattle.bus_deliverylog.specs.Logs.{IsFirstBad, IsTorn};
-ghost use Rattle.bus_batch.specs.Frames.{Frame, AreFrames, IsFrame, frame_words, log_words};
+ghost use Rattle.bus_register.specs.declared.limits.TheConstants.{MOST_LOG_WORDS, MOST_MESSAGES};
+ghost use Rattle.bus_deliverylog.specs.Logs.{IsFirstBadOf, IsTornOf};
+ghost use Rattle.bus_batch.specs.Frames.{Frame, AreFrames, AreFramesOf, IsFrame, frame_words};
+ghost use Rattle.bus_batch.specs.Frames.{log_words};
 ghost use Rattle.bus_script.specs.Grammar.{script_lines};
 ghost use Rattle.bus_script.specs.declared.answers.Outcome.{Outcome};
 ghost use Rattle.bus_script.specs.declared.answers.Outcome.TheVariants.{Done, Refused};
@@ -38,8 +39,9 @@ pub fn inputs_are_words()
 
 /// An input has at most one answer.
 pub fn log_answers_are_one()
-    ensures { (senders : ℕ) (input : List ℕ) (outcome other : Outcome) (text another : List ℕ)
-        → IsAnswer senders input outcome text → IsAnswer senders input other another
+    ensures { (most senders : ℕ) (input : List ℕ) (outcome other : Outcome)
+        (text another : List ℕ) → most ≤ MOST_MESSAGES
+        → IsAnswer most senders input outcome text → IsAnswer most senders input other another
         → (outcome ≡ other) × (text ≡ another) }
 {
     readings_are_exact();
@@ -47,39 +49,48 @@ pub fn log_answers_are_one()
 
 /// The words of a log, printed one a line, are answered with the lines of its frames.
 pub fn printed_logs_are_told()
-    ensures { (senders : ℕ) (frames : List Frame) → AreFrames senders frames
+    ensures { (most senders : ℕ) (frames : List Frame) → AreFramesOf most senders frames
         → All (λ word. word < 2 ^ 64) (log_words frames)
         → length (log_words frames) ≤ MOST_LOG_WORDS
-        → IsAnswer senders (words_text (log_words frames)) Done (log_text frames) }
+        → IsAnswer most senders (words_text (log_words frames)) Done (log_text frames) }
 {}
 
 /// What is no word: a digit too few, a digit too many, and a letter that is no digit. What no
 /// answer does: to tell a log where words end within a frame, where one is bad or where a line was
-/// refused, another log than words spell, or a line more; to refuse words that are a log; and to
-/// name another place than that of the first bad word.
+/// refused, another log than words spell, or a line more; to refuse words that are a log; to name
+/// another place than that of the first bad word; and to tell a log with more messages in a frame
+/// than it was asked for.
 pub fn log_answers_refuse()
     ensures short { word_of (codes "400002000000000") ≡ None }
     ensures long { word_of (codes "40000200000000000") ≡ None }
     ensures letter { word_of (codes "400002000000000g") ≡ None }
-    ensures torn { (senders : ℕ) (input words : List ℕ) (text : List ℕ) → words_of input ≡ Ok words
-        → IsTorn senders words → ¬ IsAnswer senders input Done text }
-    ensures other { (senders : ℕ) (input : List ℕ) (text : List ℕ) (frames : List Frame)
-        → AreFrames senders frames → words_of input ≡ Ok (log_words frames)
-        → IsAnswer senders input Done text → text ≡ log_text frames }
-    ensures bad { (senders place : ℕ) (input words text : List ℕ) → words_of input ≡ Ok words
-        → IsFirstBad senders words place → ¬ IsAnswer senders input Done text }
-    ensures line_refused { (senders : ℕ) (input text : List ℕ) (refusal : Refusal)
-        → words_of input ≡ Err refusal → ¬ IsAnswer senders input Done text }
-    ensures line_more { (senders : ℕ) (input line : List ℕ) (frames : List Frame)
-        → AreFrames senders frames → words_of input ≡ Ok (log_words frames) → line ≢ []
-        → ¬ IsAnswer senders input Done (log_text frames ++ line) }
-    ensures end_unread { (senders : ℕ) → ¬ IsAnswer senders [] Done (codes "end" ++ 10 ∷ []) }
-    ensures whole { (senders : ℕ) (input text : List ℕ) (frames : List Frame)
-        → AreFrames senders frames → words_of input ≡ Ok (log_words frames)
-        → ¬ IsAnswer senders input Refused text }
-    ensures place { (senders place : ℕ) (input words text : List ℕ) → words_of input ≡ Ok words
-        → IsFirstBad senders words place → IsAnswer senders input Refused text
-        → text ≡ bad_word_text place }
+    ensures torn { (most senders : ℕ) (input words : List ℕ) (text : List ℕ)
+        → words_of input ≡ Ok words → IsTornOf most senders words
+        → ¬ IsAnswer most senders input Done text }
+    ensures other { (most senders : ℕ) (input : List ℕ) (text : List ℕ) (frames : List Frame)
+        → most ≤ MOST_MESSAGES → AreFrames senders frames
+        → words_of input ≡ Ok (log_words frames)
+        → IsAnswer most senders input Done text → text ≡ log_text frames }
+    ensures bad { (most senders place : ℕ) (input words text : List ℕ)
+        → words_of input ≡ Ok words → IsFirstBadOf most senders words place
+        → ¬ IsAnswer most senders input Done text }
+    ensures line_refused { (most senders : ℕ) (input text : List ℕ) (refusal : Refusal)
+        → words_of input ≡ Err refusal → ¬ IsAnswer most senders input Done text }
+    ensures line_more { (most senders : ℕ) (input line : List ℕ) (frames : List Frame)
+        → most ≤ MOST_MESSAGES → AreFrames senders frames
+        → words_of input ≡ Ok (log_words frames) → line ≢ []
+        → ¬ IsAnswer most senders input Done (log_text frames ++ line) }
+    ensures end_unread { (most senders : ℕ)
+        → ¬ IsAnswer most senders [] Done (codes "end" ++ 10 ∷ []) }
+    ensures whole { (most senders : ℕ) (input text : List ℕ) (frames : List Frame)
+        → AreFramesOf most senders frames → words_of input ≡ Ok (log_words frames)
+        → ¬ IsAnswer most senders input Refused text }
+    ensures place { (most senders place : ℕ) (input words text : List ℕ)
+        → words_of input ≡ Ok words → IsFirstBadOf most senders words place
+        → IsAnswer most senders input Refused text → text ≡ bad_word_text place }
+    ensures many { (most senders : ℕ) (input text : List ℕ) (frames : List Frame)
+        → most ≤ MOST_MESSAGES → AreFrames senders frames → (¬ AreFramesOf most senders frames)
+        → words_of input ≡ Ok (log_words frames) → ¬ IsAnswer most senders input Done text }
 {
     readings_are_exact();
 }

@@ -6,7 +6,7 @@
 //! use bus_logtext::read_log_text;
 //!
 //! let lines = b"4000020000000000\n8040000000000000\n6100000000000000\n";
-//! let answer = read_log_text(rt.alloc(), lines, 2)?;
+//! let answer = read_log_text(rt.alloc(), lines, 2, 16)?;
 //! assert_eq!(rt; answer.text.as_str(), "frame 0 0\nitem 0 0 61\n");
 //! ```
 #![tactic(auto)]

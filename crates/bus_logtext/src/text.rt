@@ -1,7 +1,8 @@
 //! What is printed of a log, in the order of its words.
 
-ghost use Rattle.std.specs.Prelude.{◌≡◌, ◌++◌, Err, IfOk, OnOk, string_bytes};
-ghost use Rattle.bus_deliverylog.specs.Logs.{IsFirstBad, IsTorn};
+ghost use Rattle.std.specs.Prelude.{◌≡◌, ◌≤◌, ◌++◌, Err, IfOk, OnOk, string_bytes};
+ghost use Rattle.bus_register.specs.declared.limits.TheConstants.{MOST_MESSAGES};
+ghost use Rattle.bus_deliverylog.specs.Logs.{IsFirstBadOf, IsTornOf};
 ghost use Rattle.bus_logtext.specs.Text.{piece_line, bad_word_text, word_fault_name, refusal_text};
 ghost use Rattle.bus_logtext.specs.Answers.{TellsLog};
 
@@ -28,15 +29,16 @@ fn push_piece(text: &mut String, found: Option<Piece>) -> Result<(), AllocError>
     }
 }
 
-/// What the words of a log of so many senders spell: each frame, and behind it its items, the end,
-/// or that its sender has left.
-pub fn log_text(alloc: Global, words: &[u64], senders: u64) -> Result<String, LogFault>
-    ensures told { IfOk result (λ text. TellsLog senders words.now (string_bytes text)) }
+/// What the words of a log of so many senders, with so many messages in a frame at most, 1 to 64,
+/// spell: each frame, and behind it its items, the end, or that its sender has left.
+pub fn log_text(alloc: Global, words: &[u64], senders: u64, most: u64) -> Result<String, LogFault>
+    requires most { (1 ≤ most) × (most ≤ MOST_MESSAGES) }
+    ensures told { IfOk result (λ text. TellsLog most senders words.now (string_bytes text)) }
     ensures bad { (place : _) → result ≡ Err (LogFault.BadWord place)
-        → IsFirstBad senders words.now place }
-    ensures torn { result ≡ Err LogFault.Torn → IsTorn senders words.now }
+        → IsFirstBadOf most senders words.now place }
+    ensures torn { result ≡ Err LogFault.Torn → IsTornOf most senders words.now }
 {
-    let mut reader = FrameReader::new(senders);
+    let mut reader = FrameReader::within(senders, most);
     let mut text = String::new(alloc);
     for (place, word) in words.iter().enumerate() {
         match reader.feed(*word) {

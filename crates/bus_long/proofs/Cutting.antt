@@ -6,8 +6,7 @@ use Rattle.std.proofs.Common.{lt-ltb, le-ltb, eq-eqb, ne_eqb, le-leb}
 use Rattle.std.proofs.lemmas.Bool.{cases_Bool, cond-true, cond-false, and_from, and_left, and_right}
 use Rattle.std.proofs.lemmas.Bool.Decides.{nat_tests}
 use Rattle.std.proofs.lemmas.List.{length-drop}
-use Rattle.bus_register.specs.declared.limits.TheConstants.{MOST_MESSAGES}
-use Rattle.bus_long.specs.declared.pieces.TheConstants.{PIECE_BYTES}
+use Rattle.bus_long.specs.declared.pieces.TheConstants.{MOST_PIECES, PIECE_BYTES}
 use Rattle.bus_long.specs.Pieces.{Begun, nothing, cut, pieces, is_piece, front, whole_by, begun_by}
 
 -- ---- one piece
@@ -18,15 +17,15 @@ is_last bytes few = le-leb (length bytes) PIECE_BYTES few
 not_last : (n : ℕ) → nat_eq (suc n) 0 ≡ false
 not_last n = ne_eqb (suc n) 0 (λ e. omega (arith, e))
 
-inner_is : (n : ℕ) (bytes : List ℕ) → suc n < MOST_MESSAGES
+inner_is : (n : ℕ) (bytes : List ℕ) → suc n < MOST_PIECES
     → is_piece (suc n) bytes ≡ nat_eq (length bytes) PIECE_BYTES
 inner_is n bytes below =
     ap (λ t. t && cond (nat_eq (suc n) 0) (nat_le (length bytes) PIECE_BYTES)
-    (nat_eq (length bytes) PIECE_BYTES)) (lt-ltb (suc n) MOST_MESSAGES below)
+    (nat_eq (length bytes) PIECE_BYTES)) (lt-ltb (suc n) MOST_PIECES below)
     ∙ cond-false (nat_eq (suc n) 0) (nat_le (length bytes) PIECE_BYTES)
     (nat_eq (length bytes) PIECE_BYTES) (not_last n)
 
-pub is_inner : (n : ℕ) (bytes : List ℕ) → suc n < MOST_MESSAGES → length bytes ≡ PIECE_BYTES
+pub is_inner : (n : ℕ) (bytes : List ℕ) → suc n < MOST_PIECES → length bytes ≡ PIECE_BYTES
     → is_piece (suc n) bytes ≡ true
 is_inner n bytes below full = inner_is n bytes below ∙ eq-eqb (length bytes) PIECE_BYTES full
 
@@ -135,11 +134,11 @@ length-pieces bytes = length-cut ((length bytes - 1) / PIECE_BYTES) bytes
 -- ---- what has the form of a piece
 
 pub high_is_none : (message : List ℕ) (follow : ℕ) (bytes : List ℕ) → message ≡ follow ∷ bytes
-    → MOST_MESSAGES ≤ get_or message 0 0 → false ≡ is_piece follow bytes
+    → MOST_PIECES ≤ get_or message 0 0 → false ≡ is_piece follow bytes
 high_is_none message follow bytes is high =
     let at = ap (λ z. get_or z 0 0) is in
-    let below : MOST_MESSAGES ≤ follow = omega arith in
-    sym (and_left (nat_lt follow MOST_MESSAGES) _ (le-ltb follow MOST_MESSAGES below))
+    let below : MOST_PIECES ≤ follow = omega arith in
+    sym (and_left (nat_lt follow MOST_PIECES) _ (le-ltb follow MOST_PIECES below))
 
 shorter : (n : ℕ) → nat_le (suc n) 56 ≡ nat_le n 55
 shorter n = grind (arith, nat_tests)
@@ -155,7 +154,7 @@ last_may_be message follow bytes is last =
     ∙ ap (λ z. is_piece z bytes) (sym none)
 
 pub inner_may_be : (message : List ℕ) (follow : ℕ) (bytes : List ℕ) → message ≡ follow ∷ bytes
-    → get_or message 0 0 < MOST_MESSAGES → 0 < get_or message 0 0
+    → get_or message 0 0 < MOST_PIECES → 0 < get_or message 0 0
     → nat_eq (length message) 56 ≡ is_piece follow bytes
 inner_may_be message follow bytes is below some =
     let at = ap (λ z. get_or z 0 0) is in

@@ -4,8 +4,7 @@ use Rattle.std.proofs.Common.{◌++◌, length, take, drop, flat_map, All, Some,
 use Rattle.std.proofs.Common.{sym, append_assoc, arith}
 use Rattle.std.proofs.lemmas.List.{length-append, length-drop, length-take-le, take-append-drop}
 use Rattle.std.proofs.lemmas.List.Elements.{All-head, All-tail}
-use Rattle.bus_register.specs.declared.limits.TheConstants.{MOST_MESSAGES}
-use Rattle.bus_long.specs.declared.pieces.TheConstants.{MOST_LONG_BYTES, PIECE_BYTES}
+use Rattle.bus_long.specs.declared.pieces.TheConstants.{MOST_LONG_BYTES, MOST_PIECES, PIECE_BYTES}
 use Rattle.bus_long.specs.Pieces.{Begun, nothing, cut, pieces, front, whole_by, begun_by, listed}
 use Rattle.bus_long.specs.Pieces.{begun, joined}
 use Rattle.bus_long.proofs.Cutting.{is_last, is_inner, whole_last, begun_last, whole_inner}
@@ -34,7 +33,7 @@ record Joins (b : Begun) (n : ℕ) (bytes : List ℕ) : Type 0 where
   pub whole : joined b (cut n bytes) ≡ (front b n ++ bytes) ∷ []
   pub done : begun b (cut n bytes) ≡ nothing
 
-cut_joins : (n : ℕ) (b : Begun) (bytes : List ℕ) → n < MOST_MESSAGES
+cut_joins : (n : ℕ) (b : Begun) (bytes : List ℕ) → n < MOST_PIECES
     → PIECE_BYTES * n ≤ length bytes → length bytes ≤ PIECE_BYTES * n + PIECE_BYTES
     → Joins b n bytes
 cut_joins zero b bytes below many few = record {
@@ -64,7 +63,7 @@ record Comes (n : ℕ) (bytes : List ℕ) : Type 0 where
   pub whole : joined nothing (cut n bytes) ≡ bytes ∷ []
   pub done : begun nothing (cut n bytes) ≡ nothing
 
-cut_comes : (n : ℕ) (bytes : List ℕ) → n < MOST_MESSAGES
+cut_comes : (n : ℕ) (bytes : List ℕ) → n < MOST_PIECES
     → PIECE_BYTES * n ≤ length bytes → length bytes ≤ PIECE_BYTES * n + PIECE_BYTES
     → Comes n bytes
 cut_comes n bytes below many few =

@@ -3,8 +3,7 @@
 use Rattle.std.specs.Prelude.{ℕ, zero, suc, ◌-◌, ◌/◌, ◌&&◌, Bool, List, [], ◌∷◌, ◌++◌}
 use Rattle.std.specs.Prelude.{length, take, drop, Option, Some, None, nat_eq, nat_lt, nat_le}
 use Rattle.std.specs.Prelude.{if◌then◌else◌}
-use Rattle.bus_register.specs.declared.limits.TheConstants.{MOST_MESSAGES}
-use Rattle.bus_long.specs.declared.pieces.TheConstants.{PIECE_BYTES}
+use Rattle.bus_long.specs.declared.pieces.TheConstants.{MOST_PIECES, PIECE_BYTES}
 
 -- ---- cut
 -- The pieces of bytes, of which so many follow the first. Each begins with how many follow it.
@@ -31,7 +30,7 @@ nothing = record { left = 0; bytes = [] }
 -- so many follow it, and these are its bytes: 55, and at most 55 of the last
 abbrev pub is_piece : ℕ → List ℕ → Bool
 is_piece follow bytes =
-    nat_lt follow MOST_MESSAGES
+    nat_lt follow MOST_PIECES
     && (if nat_eq follow 0 then nat_le (length bytes) PIECE_BYTES
     else nat_eq (length bytes) PIECE_BYTES)
 

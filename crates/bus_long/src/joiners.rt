@@ -4,9 +4,8 @@ ghost use Rattle.std.specs.Prelude.{◌≡◌, ℕ, ◌+◌, ◌*◌, ◌≤◌,
 ghost use Rattle.std.specs.Prelude.{◌<◌, Some, None, false, IsTrue, slice_index};
 ghost use Rattle.bus_long.specs.Pieces.{nothing, begun_by, whole_by, is_piece};
 
-use crate::pieces::{MOST_LONG_BYTES, PIECE_BYTES};
+use crate::pieces::{MOST_LONG_BYTES, MOST_PIECES, PIECE_BYTES};
 use arrayvec::ArrayVec;
-use bus_register::limits::MOST_MESSAGES;
 use std::marker::Model;
 
 /// What a message of a sender came to.
@@ -120,13 +119,13 @@ fn may_be_piece(message: &[u8]) -> bool
     ensures some { (follow : ℕ) (bytes : List ℕ) → message.now ≡ follow ∷ bytes
         → result ≡ is_piece follow bytes }
     ensures none { message.now ≡ [] → result ≡ false }
-    ensures short { IsTrue result → (slice_index message.now 0 < MOST_MESSAGES)
+    ensures short { IsTrue result → (slice_index message.now 0 < MOST_PIECES)
         × (length message.now ≤ PIECE_BYTES + 1) }
 {
     if message.is_empty() {
         return false;
     }
-    if message[0] as usize >= MOST_MESSAGES {
+    if message[0] as usize >= MOST_PIECES {
         return false;
     }
     if message[0] == 0 {

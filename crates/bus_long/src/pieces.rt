@@ -2,22 +2,24 @@
 
 ghost use Rattle.std.specs.Prelude.{◌≡◌, ◌↔◌, ◌<◌, ◌≤◌, ◌∷◌, ◌++◌, [], length, IsSome, IfSome};
 ghost use Rattle.bus_long.specs.Pieces.{pieces};
-ghost use Rattle.bus_register.specs.declared.limits.TheConstants.{MOST_MESSAGES};
 
 use arrayvec::ArrayVec;
 use bus_batch::Message;
-use bus_register::limits::{MOST_BYTES, MOST_MESSAGES};
+use bus_register::limits::MOST_BYTES;
 
 /// Bytes of a long message in one piece: a byte before them says how many pieces follow.
 pub const PIECE_BYTES: usize = MOST_BYTES - 1;
 
+/// Pieces of a long message: at most 16.
+pub const MOST_PIECES: usize = 16;
+
 /// Bytes of a long message: at most 880, which are 16 pieces of 55.
-pub const MOST_LONG_BYTES: usize = MOST_MESSAGES * PIECE_BYTES;
+pub const MOST_LONG_BYTES: usize = MOST_PIECES * PIECE_BYTES;
 
 /// The pieces of a long message: those before the last, and the last.
 #[derive(Drop)]
 pub struct Parts {
-    pub before: ArrayVec<Message, MOST_MESSAGES>,
+    pub before: ArrayVec<Message, MOST_PIECES>,
     pub last: Message,
 }
 
@@ -26,7 +28,7 @@ pub fn cut(bytes: &[u8]) -> Option<Parts>
     ensures fits { IsSome result ↔ (length bytes.now ≤ MOST_LONG_BYTES) }
     ensures pieces { IfSome result
         (λ parts. parts.before.items ++ parts.last ∷ [] ≡ pieces bytes.now) }
-    ensures few { IfSome result (λ parts. length parts.before.items < MOST_MESSAGES) }
+    ensures few { IfSome result (λ parts. length parts.before.items < MOST_PIECES) }
 {
     if bytes.len() > MOST_LONG_BYTES {
         return None;

@@ -40,6 +40,7 @@ module _ {E : Type 0} (X : Election E) (P : Protocol E (Unit {0}) ℕ) (m : Mach
       stands = f.stands;
       below = λ flat. read_below P m T f flat;
       spelled = spelled;
+      few = f.sending.log.few;
       edge = f.edge;
       comes = λ p v at stays. (f.reads p v at).3 stays;
       passes = f.passes;

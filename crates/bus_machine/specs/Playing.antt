@@ -5,6 +5,7 @@ use Rattle.std.specs.Prelude.{None, List}
 use Rattle.std.specs.Prelude.{[], ◌∷◌, ◌++◌, length, take, slice_get, slice_index}
 use Rattle.bus_register.specs.declared.limits.TheConstants.{MOST_SENDERS, MOST_RECEIVERS}
 use Rattle.bus_register.specs.declared.limits.TheConstants.{MOST_ROUNDS, MOST_ROWS, MOST_MESSAGES}
+use Rattle.bus_register.specs.declared.limits.TheConstants.{LOG_MESSAGES}
 use Rattle.bus_register.specs.declared.limits.TheConstants.{LEAST_LOG_WORDS, MOST_LOG_WORDS}
 use Rattle.bus_register.specs.declared.limits.TheConstants.{TENURES}
 use Rattle.bus_register.specs.Protocol.{Protocol}
@@ -38,9 +39,9 @@ use Rattle.bus_machine.specs.Telling.{Causes, Says, Tells, OpensOnly}
 -- its tenures, or are used again by up to 2^40 of them
 abbrev pub layout_passed : {S : Type 0} → Protocol S Bool Verdict → Shape → Option ℕ → ℕ → Layout
 layout_passed P shape None passers =
-    layout_with P shape.senders shape.rounds shape.rows shape.log_words passers MOST_MESSAGES
+    layout_with P shape.senders shape.rounds shape.rows shape.log_words passers shape.batch
 layout_passed P shape (Some rows) passers =
-    layout_with P shape.senders shape.rounds TENURES shape.log_words passers MOST_MESSAGES
+    layout_with P shape.senders shape.rounds TENURES shape.log_words passers shape.batch
 
 -- without any, where no word of the log is used again
 abbrev pub layout_of : {S : Type 0} → Protocol S Bool Verdict → Shape → Option ℕ → Layout
@@ -92,78 +93,105 @@ pub record IsServed (shape : Shape) (reuse : Option ℕ) : Type 0 where
   pub rows : Within (least_rows reuse) (most_rows reuse) shape.rows
   pub log_words : Within LEAST_LOG_WORDS MOST_LOG_WORDS shape.log_words
 
--- why no bus is made: each cause where it holds and no earlier one
-abbrev pub MakeRefused : Shape → Option ℕ → MakeFault → Type 0
-MakeRefused shape reuse make.Senders = Beyond 1 MOST_SENDERS shape.senders
-MakeRefused shape reuse make.Receivers =
+-- so many messages a batch may have, where there are so many passed places: of a log that is no
+-- ring, and so has none, one number alone
+abbrev pub IsBatch : ℕ → ℕ → Type 0
+IsBatch zero batch = batch ≡ LOG_MESSAGES
+IsBatch (suc passers) batch = Within 1 MOST_MESSAGES batch
+
+-- why no bus of these sizes is made, whatever its batches: each cause where it holds and no earlier
+-- one
+abbrev pub SizesRefused : Shape → Option ℕ → MakeFault → Type 0
+SizesRefused shape reuse make.Senders = Beyond 1 MOST_SENDERS shape.senders
+SizesRefused shape reuse make.Receivers =
     Within 1 MOST_SENDERS shape.senders × Beyond 1 MOST_RECEIVERS shape.receivers
-MakeRefused shape reuse make.Rounds =
+SizesRefused shape reuse make.Rounds =
     Within 1 MOST_SENDERS shape.senders × Within 1 MOST_RECEIVERS shape.receivers
     × Beyond 1 MOST_ROUNDS shape.rounds
-MakeRefused shape reuse make.Rows =
+SizesRefused shape reuse make.Rows =
     Within 1 MOST_SENDERS shape.senders × Within 1 MOST_RECEIVERS shape.receivers
     × Within 1 MOST_ROUNDS shape.rounds × Beyond (least_rows reuse) (most_rows reuse) shape.rows
-MakeRefused shape reuse make.LogWords =
+SizesRefused shape reuse make.LogWords =
     Within 1 MOST_SENDERS shape.senders × Within 1 MOST_RECEIVERS shape.receivers
     × Within 1 MOST_ROUNDS shape.rounds × Within (least_rows reuse) (most_rows reuse) shape.rows
     × Beyond LEAST_LOG_WORDS MOST_LOG_WORDS shape.log_words
--- of a bus of which no sitting was before
-MakeRefused shape reuse make.NotEnded = ⊥
-MakeRefused shape reuse make.Numbers = ⊥
-MakeRefused shape reuse make.NoMemory = IsServed shape reuse
+-- of its batches, of a sitting before it and of memory these say nothing
+SizesRefused shape reuse make.Batch = ⊥
+SizesRefused shape reuse make.NotEnded = ⊥
+SizesRefused shape reuse make.Numbers = ⊥
+SizesRefused shape reuse make.NoMemory = ⊥
+
+-- a bus of this shape with so many passed places is served, its batches as well
+abbrev pub IsServedWith : ℕ → Shape → Option ℕ → Type 0
+IsServedWith passers shape reuse = IsServed shape reuse × IsBatch passers shape.batch
+
+-- why none is made of which no sitting was before
+abbrev pub NewRefused : ℕ → Shape → Option ℕ → MakeFault → Type 0
+NewRefused passers shape reuse make.Senders = SizesRefused shape reuse make.Senders
+NewRefused passers shape reuse make.Receivers = SizesRefused shape reuse make.Receivers
+NewRefused passers shape reuse make.Rounds = SizesRefused shape reuse make.Rounds
+NewRefused passers shape reuse make.Rows = SizesRefused shape reuse make.Rows
+NewRefused passers shape reuse make.LogWords = SizesRefused shape reuse make.LogWords
+NewRefused passers shape reuse make.Batch = IsServed shape reuse × (¬ IsBatch passers shape.batch)
+NewRefused passers shape reuse make.NotEnded = ⊥
+NewRefused passers shape reuse make.Numbers = ⊥
+NewRefused passers shape reuse make.NoMemory = IsServedWith passers shape reuse
+
+-- the same of a bus whose log is no ring
+abbrev pub MakeRefused : Shape → Option ℕ → MakeFault → Type 0
+MakeRefused shape reuse why = NewRefused 0 shape reuse why
 
 -- ---- a next sitting
--- the page of a sitting that a bus with so many passed places can go on with: it has ended, and
--- each next number leaves room for a whole log, or where words of the log are used again for all
--- tenures
-pub record IsFollowedBy (passers : ℕ) (page : Page) : Type 0 where
+-- the page of a sitting that a bus with so many passed places, and such batches, can go on with: it
+-- has ended, and each next number leaves room for a whole log, or where words of the log are used
+-- again for all tenures
+pub record IsFollowedBy (passers batch : ℕ) (page : Page) : Type 0 where
   pub ended : page.ended ≡ true
-  pub low : (s : ℕ) → slice_index page.next s < first_numbers passers MOST_MESSAGES
+  pub low : (s : ℕ) → slice_index page.next s < first_numbers passers batch
 
 abbrev pub IsFollowed : Page → Type 0
-IsFollowed page = IsFollowedBy 0 page
+IsFollowed page = IsFollowedBy 0 LOG_MESSAGES page
 
 -- why no bus is made that is to go on with it: of all 64 senders the next number is looked at,
 -- whatever the shape
 abbrev pub RefusedAfter : ℕ → Shape → Option ℕ → Page → MakeFault → Type 0
-RefusedAfter passers shape reuse page make.Senders = MakeRefused shape reuse make.Senders
-RefusedAfter passers shape reuse page make.Receivers = MakeRefused shape reuse make.Receivers
-RefusedAfter passers shape reuse page make.Rounds = MakeRefused shape reuse make.Rounds
-RefusedAfter passers shape reuse page make.Rows = MakeRefused shape reuse make.Rows
-RefusedAfter passers shape reuse page make.LogWords = MakeRefused shape reuse make.LogWords
-RefusedAfter passers shape reuse page make.NotEnded = IsServed shape reuse × (page.ended ≡ false)
+RefusedAfter passers shape reuse page make.Senders = SizesRefused shape reuse make.Senders
+RefusedAfter passers shape reuse page make.Receivers = SizesRefused shape reuse make.Receivers
+RefusedAfter passers shape reuse page make.Rounds = SizesRefused shape reuse make.Rounds
+RefusedAfter passers shape reuse page make.Rows = SizesRefused shape reuse make.Rows
+RefusedAfter passers shape reuse page make.LogWords = SizesRefused shape reuse make.LogWords
+RefusedAfter passers shape reuse page make.Batch = NewRefused passers shape reuse make.Batch
+RefusedAfter passers shape reuse page make.NotEnded =
+    IsServedWith passers shape reuse × (page.ended ≡ false)
 RefusedAfter passers shape reuse page make.Numbers =
-    IsServed shape reuse × (page.ended ≡ true) × (s : ℕ) × (s < MOST_SENDERS)
-    × (first_numbers passers MOST_MESSAGES ≤ slice_index page.next s)
+    IsServedWith passers shape reuse × (page.ended ≡ true) × (s : ℕ) × (s < MOST_SENDERS)
+    × (first_numbers passers shape.batch ≤ slice_index page.next s)
 RefusedAfter passers shape reuse page make.NoMemory =
-    IsServed shape reuse × IsFollowedBy passers page
+    IsServedWith passers shape reuse × IsFollowedBy passers shape.batch page
 
 abbrev pub AfterRefused : Shape → Option ℕ → Page → MakeFault → Type 0
 AfterRefused shape reuse page why = RefusedAfter 0 shape reuse page why
 
--- what is wrong with the page itself
-abbrev pub PageRefused : ℕ → Page → MakeFault → Type 0
-PageRefused passers page make.Senders = ⊥
-PageRefused passers page make.Receivers = ⊥
-PageRefused passers page make.Rounds = ⊥
-PageRefused passers page make.Rows = ⊥
-PageRefused passers page make.LogWords = ⊥
-PageRefused passers page make.NotEnded = page.ended ≡ false
-PageRefused passers page make.Numbers =
-    (page.ended ≡ true) × (s : ℕ) × (s < MOST_SENDERS)
-    × (first_numbers passers MOST_MESSAGES ≤ slice_index page.next s)
-PageRefused passers page make.NoMemory = ⊥
-
-abbrev pub MayNotGoOn : ℕ → Option Page → MakeFault → Type 0
-MayNotGoOn passers None why = ⊥
-MayNotGoOn passers (Some page) why = PageRefused passers page why
-
-abbrev pub MayNotFollow : Option Page → MakeFault → Type 0
-MayNotFollow page why = MayNotGoOn 0 page why
+-- why a sitting with such batches does not begin with this page, if with any
+abbrev pub MayNotGoOn : ℕ → ℕ → Option Page → MakeFault → Type 0
+MayNotGoOn passers batch page make.Senders = ⊥
+MayNotGoOn passers batch page make.Receivers = ⊥
+MayNotGoOn passers batch page make.Rounds = ⊥
+MayNotGoOn passers batch page make.Rows = ⊥
+MayNotGoOn passers batch page make.LogWords = ⊥
+MayNotGoOn passers batch page make.Batch = ¬ IsBatch passers batch
+MayNotGoOn passers batch None make.NotEnded = ⊥
+MayNotGoOn passers batch (Some page) make.NotEnded =
+    IsBatch passers batch × (page.ended ≡ false)
+MayNotGoOn passers batch None make.Numbers = ⊥
+MayNotGoOn passers batch (Some page) make.Numbers =
+    IsBatch passers batch × (page.ended ≡ true) × (s : ℕ) × (s < MOST_SENDERS)
+    × (first_numbers passers batch ≤ slice_index page.next s)
+MayNotGoOn passers batch page make.NoMemory = ⊥
 
 -- with this page, if with any
 abbrev pub RefusedWith : ℕ → Shape → Option ℕ → Option Page → MakeFault → Type 0
-RefusedWith passers shape reuse None why = MakeRefused shape reuse why
+RefusedWith passers shape reuse None why = NewRefused passers shape reuse why
 RefusedWith passers shape reuse (Some page) why = RefusedAfter passers shape reuse page why
 
 abbrev pub MakeRefusedAfter : Shape → Option ℕ → Option Page → MakeFault → Type 0
@@ -174,18 +202,19 @@ abbrev pub bases_after : Option Page → List ℕ
 bases_after None = no_bases
 bases_after (Some page) = page.next
 
-abbrev pub MayGoOn : ℕ → Option Page → Type 0
-MayGoOn passers None = Unit {0}
-MayGoOn passers (Some page) = IsFollowedBy passers page
+abbrev pub MayGoOn : ℕ → ℕ → Option Page → Type 0
+MayGoOn passers batch None = Unit {0}
+MayGoOn passers batch (Some page) = IsFollowedBy passers batch page
 
 abbrev pub MayFollow : Option Page → Type 0
-MayFollow page = MayGoOn 0 page
+MayFollow page = MayGoOn 0 LOG_MESSAGES page
 
 -- a new bus of this shape with so many passed places, over such ratifiers, of a sitting that begins
 -- with these numbers
 pub record IsMadeWith {E S : Type 0} (X : Election E) (P : Protocol S Bool Verdict) (shape : Shape)
     (reuse : Option ℕ) (passers : ℕ) (bases : List ℕ) (m : Machine E) : Type 0 where
   pub served : IsServed shape reuse
+  pub batch : IsBatch passers shape.batch
   pub layout : m.layout ≡ layout_passed P shape reuse passers
   pub rows : m.reuse ≡ reuse
   pub bases_are : m.bases ≡ bases
@@ -304,7 +333,7 @@ pub record IsHeld {E : Type 0} (X : Election E) (m : Machine E) : Type 0 where
   pub capacity_some : 0 < m.layout.capacity
   pub capacity_few : m.layout.capacity ≤ MOST_LOG_WORDS
   pub passers_few : m.layout.passers ≤ MOST_RECEIVERS
-  pub batch : Within 1 MOST_MESSAGES m.layout.batch
+  pub batch : IsBatch m.layout.passers m.layout.batch
   pub senders : length m.senders ≡ m.layout.senders
   pub trails : Trails
   pub reached : Reached X m trails

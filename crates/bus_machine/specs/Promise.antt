@@ -1,13 +1,13 @@
 -- What is promised of the machine, and how an event leaves the promise: of both kinds of rows.
 use Rattle.std.specs.Prelude.{◌≡◌, ◌≢◌, ℕ, ◌+◌, ◌*◌, ◌/◌, ◌%◌, ◌<◌, ◌≤◌, Bool, false, Option, Some}
 use Rattle.std.specs.Prelude.{None, List, [], ◌++◌, filter, length, map, slice_get, slice_index}
-use Rattle.std.specs.Prelude.{◌==◌, ◌⊎◌, if◌then◌else◌}
+use Rattle.std.specs.Prelude.{◌==◌, ◌⊎◌, if◌then◌else◌, All}
 use Rattle.bus_register.specs.declared.limits.TheConstants.{MOST_SENDERS}
 use Rattle.bus_register.specs.declared.registers.Op.{Op}
 use Rattle.bus_register.specs.declared.registers.SenderNo.{SenderNo}
 use Rattle.bus_register.specs.Words.{register}
 use Rattle.bus_batch.specs.Batches.{frame_of}
-use Rattle.bus_batch.specs.Frames.{Frame, Order, Spells, frame_words, has_gone}
+use Rattle.bus_batch.specs.Frames.{Frame, Order, Spells, frame_words, has_gone, items_of}
 use Rattle.bus_core.specs.Keeping.{reclaimer_in}
 use Rattle.bus_core.specs.Senders.{Sender, Does, Clears, ReadsPassed, situation}
 use Rattle.bus_core.specs.Table.{line_now}
@@ -210,6 +210,8 @@ pub record IsPromisedBy {E : Type 0} (X : Election E) (m : Machine E) (T : Trail
   pub stands : ShowsLog m T.log
   pub below : StandsBelow m T.log
   pub spelled : Spells m.layout.senders T.log order owners
+  -- none of whose frames has more messages than a batch may have
+  pub few : All (λ f. length (items_of f) ≤ m.layout.batch) spelled.frames
   -- one of its frames begins at the floor: so what stands is the last frames, and spells by itself
   -- what they say
   pub edge : IsBoundary spelled.frames (floor_of m)

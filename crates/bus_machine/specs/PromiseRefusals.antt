@@ -1,6 +1,8 @@
 -- What is promised of no machine, whatever else happened: of each named wrong behaviour one
 -- instance.
-use Rattle.std.specs.Prelude.{◌≡◌, ◌≢◌, ℕ, ◌+◌, ◌*◌, ◌%◌, ◌≤◌, Some, None, [], slice_get}
+use Rattle.std.specs.Prelude.{◌≡◌, ◌≢◌, ℕ, ◌+◌, ◌*◌, ◌%◌, ◌<◌, ◌≤◌, Some, None, List, [], ◌∷◌, ◌++◌}
+use Rattle.std.specs.Prelude.{length, slice_get}
+use Rattle.bus_batch.specs.Frames.{Frame, AreFrames, items_of, log_words}
 use Rattle.bus_core.specs.Keeping.{reclaimer_in}
 use Rattle.bus_core.specs.Reusing.Keeping.{held_of}
 use Rattle.bus_core.specs.Reusing.Participants.{sizes_with}
@@ -50,3 +52,7 @@ pub record RowsRefuse {E : Type 0} (X : Election E) (m : Machine E) (T : Trails)
 pub record PromiseRefuses {E : Type 0} (X : Election E) (m : Machine E) (T : Trails) : Type 0 where
   pub owners : OwnersRefuse X m T
   pub rows : (rows : ℕ) → m.reuse ≡ Some rows → RowsRefuse X m T rows
+  -- a frame has more messages than a batch of the bus may have
+  pub long_frame : (front rest : List Frame) (f : Frame)
+      → AreFrames m.layout.senders (front ++ f ∷ rest) → log_words (front ++ f ∷ rest) ≡ T.log
+      → m.layout.batch < length (items_of f) → ¬ IsPromised X m T

@@ -169,7 +169,8 @@ pub fn fork_refuses<Q: Ratifier>()
 /// owners, or, with a row for each tenure, an owner that it tells did not take the page of that
 /// tenure. Where rows are used again: in which an election runs of a sender that has taken no step
 /// of a pin, or elections of two tenures of one row, or takes a step past the row of its tenure; or
-/// a page is held and the row of the next tenure, which was used before, is not reclaimed.
+/// a page is held and the row of the next tenure, which was used before, is not reclaimed. And of
+/// none whose log has a frame with more messages than a batch of the bus may have.
 pub fn promise_refuses<Q: Ratifier>()
     ensures { let X = election_of Q.Ratifier in
         (machine : Machine (Elector Q)) (trails : Trails) → PromiseRefuses X machine trails }

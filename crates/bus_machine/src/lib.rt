@@ -9,7 +9,8 @@
 //! use bus_register::SenderNo;
 //! use bus_world::{Event, Shape};
 //!
-//! let shape = Shape { senders: 1, receivers: 1, rounds: 1, rows: 2, log_words: 16 };
+//! let shape =
+//!     Shape { senders: 1, receivers: 1, rounds: 1, rows: 2, log_words: 16, batch: 16 };
 //! let mut world = World::<ThreeWord>::cyclic(rt.alloc(), shape, None)?;
 //! for _ in 0..3 {
 //!     world.put(SenderNo(0), b"a")?;

@@ -2,9 +2,10 @@
 
 ghost use Rattle.std.specs.Prelude.{◌≡◌, ◌≢◌, ℕ, ◌<◌, ◌≤◌, ◌^◌, false};
 ghost use Rattle.std.specs.Prelude.{IfErr, IfOk, IfSome, None, OnOk};
-ghost use Rattle.std.specs.Prelude.{length, slice_index, true};
+ghost use Rattle.std.specs.Prelude.{length, slice_index, true, IsTrue, ◌↔◌};
 ghost use Rattle.std.specs.Option.{option_copied};
-ghost use Rattle.bus_machine.specs.Playing.{IsServed, MakeRefused, least_rows as spec_least_rows};
+ghost use Rattle.bus_machine.specs.Playing.{IsServed, SizesRefused, IsBatch};
+ghost use Rattle.bus_machine.specs.Playing.{least_rows as spec_least_rows};
 ghost use Rattle.bus_machine.specs.Machine.{log_place};
 ghost use Rattle.bus_machine.specs.Playing.{most_rows as spec_most_rows, ShapeOf};
 ghost use Rattle.bus_machine.specs.Playing.{MayGoOn, MayNotGoOn, bases_after};
@@ -16,8 +17,8 @@ ghost use Rattle.bus_world.specs.declared.shapes.MakeFault.TheVariants.{NoMemory
 
 use bus_core::limits::{LEAST_ROWS_AGAIN, MOST_ROWS_AGAIN};
 use bus_register::limits::{
-    LEAST_LOG_WORDS, MOST_LOG_WORDS, MOST_MESSAGES, MOST_RECEIVERS, MOST_ROUNDS, MOST_ROWS,
-    MOST_SENDERS, NUMBERS, TENURES,
+    LEAST_LOG_WORDS, LOG_MESSAGES, MOST_LOG_WORDS, MOST_MESSAGES, MOST_RECEIVERS, MOST_ROUNDS,
+    MOST_ROWS, MOST_SENDERS, NUMBERS, TENURES,
 };
 use bus_tenure::Page;
 use bus_world::limits::FIRST_NUMBERS;
@@ -43,9 +44,9 @@ pub fn most_rows(reuse: Option<u64>) -> u64
     }
 }
 
-/// Why no bus of this shape is served; none where it is.
+/// Why no bus of these sizes is served, whatever its batches; none where it is.
 pub fn fault_of(shape: Shape, reuse: Option<u64>) -> Option<MakeFault>
-    ensures fault { IfSome result (MakeRefused shape reuse) }
+    ensures fault { IfSome result (SizesRefused shape reuse) }
     ensures served { result ≡ None → IsServed shape reuse }
     ensures no_memory { IfSome result (λ why. why ≢ NoMemory) }
 {
@@ -64,15 +65,28 @@ pub fn fault_of(shape: Shape, reuse: Option<u64>) -> Option<MakeFault>
     }
 }
 
-/// Below this each sender's numbers begin in a sitting of a bus with so many passed places.
-fn numbers_below(passers: u64) -> u64
-    ensures is { result ≡ spec_numbers passers MOST_MESSAGES }
+/// Whether a batch of a bus with so many passed places may have so many messages: 16 of a log that
+/// is no ring, and so has none, and else 1 to 64.
+fn is_batch(passers: u64, batch: u64) -> bool
+    ensures { IsTrue result ↔ IsBatch passers batch }
+{
+    match passers {
+        0 => batch == LOG_MESSAGES as u64,
+        _ => 1 <= batch && batch <= MOST_MESSAGES as u64,
+    }
+}
+
+/// Below this each sender's numbers begin in a sitting of a bus with so many passed places, and
+/// such batches.
+fn numbers_below(passers: u64, batch: u64) -> u64
+    requires batch { IsBatch passers batch }
+    ensures is { result ≡ spec_numbers passers batch }
     ensures some { 0 < result }
     ensures most { result ≤ FIRST_NUMBERS }
 {
     match passers {
         0 => FIRST_NUMBERS,
-        _ => NUMBERS - MOST_MESSAGES as u64 * (TENURES + 1),
+        _ => NUMBERS - batch * (TENURES + 1),
     }
 }
 
@@ -93,22 +107,31 @@ fn are_low(next: [u64; MOST_SENDERS], below: u64) -> bool
 }
 
 /// The numbers that a sitting begins with, by sender: those of the page, if it goes on with one, of
-/// which nothing else is carried over. They are low enough for a bus with so many passed places.
-pub fn first_numbers(page: Option<&Page>, passers: u64) -> Result<[u64; MOST_SENDERS], MakeFault>
+/// which nothing else is carried over. They are low enough for a bus with so many passed places,
+/// and such batches. Batch where a batch of such a bus may not have so many messages.
+pub fn first_numbers(
+    page: Option<&Page>,
+    passers: u64,
+    batch: u64,
+) -> Result<[u64; MOST_SENDERS], MakeFault>
+    ensures batch { OnOk result (IsBatch passers batch) }
     ensures bases { IfOk result (λ bases. bases ≡ bases_after (option_copied page.entry)) }
     ensures are { IfOk result (λ bases. AreBases bases) }
     ensures low { IfOk result (λ bases. (s : ℕ) → slice_index bases s
-        < spec_numbers passers MOST_MESSAGES) }
-    ensures follows { OnOk result (MayGoOn passers (option_copied page.entry)) }
-    ensures fault { IfErr result (MayNotGoOn passers (option_copied page.entry)) }
+        < spec_numbers passers batch) }
+    ensures follows { OnOk result (MayGoOn passers batch (option_copied page.entry)) }
+    ensures fault { IfErr result (MayNotGoOn passers batch (option_copied page.entry)) }
 {
+    if !is_batch(passers, batch) {
+        return Err(MakeFault::Batch);
+    }
     let Some(page) = page else {
         return Ok([0; MOST_SENDERS]);
     };
     if !page.ended {
         return Err(MakeFault::NotEnded);
     }
-    if !are_low(page.next, numbers_below(passers)) {
+    if !are_low(page.next, numbers_below(passers, batch)) {
         return Err(MakeFault::Numbers);
     }
     Ok(page.next)
@@ -126,7 +149,7 @@ pub fn log_word(shape: Shape, reuse: Option<u64>, width: u64) -> u64
       width = width;
       capacity = shape.log_words;
       passers = 0;
-      batch = MOST_MESSAGES;
+      batch = shape.batch;
     } reuse }
     ensures room { result ≤ 2 ^ 30 }
 {

@@ -4,13 +4,13 @@ ghost use Rattle.std.specs.Prelude.{◌≡◌, ℕ, ◌+◌, ◌<◌, ◌≤◌,
 ghost use Rattle.bus_core.specs.Keeping.{new_sender as spec_new_sender};
 ghost use Rattle.bus_tenure.specs.Core.{words_of};
 ghost use Rattle.bus_machine.specs.Playing.{layout_of, layout_passed, IsServed, RoomFor, ShapeOf};
+ghost use Rattle.bus_machine.specs.Playing.{IsBatch};
 ghost use Rattle.bus_machine.specs.Turning.{AreNewSenders};
 ghost use Rattle.bus_register.specs.declared.limits.TheConstants.{MOST_RECEIVERS, NUMBERS};
 ghost use Rattle.bus_world.specs.World.{AreBases};
 
 use bus_adoptcommit::Ratifier;
 use bus_core::SenderCore;
-use bus_register::limits::MOST_MESSAGES;
 use bus_register::{NoMemory, SenderNo};
 use bus_world::Shape;
 use std::alloc::Global;
@@ -28,13 +28,14 @@ fn new_sender<Q: Ratifier + Drop>(
     requires room { RoomFor Q.protocol shape reuse }
     requires apart { reuse ≡ None → passers ≡ 0 }
     requires few { passers ≤ MOST_RECEIVERS }
+    requires batch { IsBatch passers shape.batch }
     requires below { me.0 < shape.senders }
     requires numbers { first ≤ NUMBERS }
     ensures { result
         ≡ spec_new_sender (layout_passed Q.protocol shape reuse passers) me.0 reuse first }
 {
     let (senders, rounds, words) = (shape.senders, shape.rounds, shape.log_words);
-    let batch = MOST_MESSAGES as u64;
+    let batch = shape.batch;
     match reuse {
         None => SenderCore::new(senders, me, rounds, shape.rows, words, first, batch),
         Some(rows) => SenderCore::cyclic(senders, me, rounds, rows, words, first, passers, batch),
@@ -54,6 +55,7 @@ pub fn new_senders<Q: Ratifier + Drop>(
     requires room { RoomFor Q.protocol shape reuse }
     requires apart { reuse ≡ None → passers ≡ 0 }
     requires few { passers ≤ MOST_RECEIVERS }
+    requires batch { IsBatch passers shape.batch }
     requires bases { AreBases bases.now }
     ensures { IfOk result (λ senders. AreNewSenders (layout_passed Q.protocol shape reuse passers)
         reuse bases.now shape.senders senders.items) }

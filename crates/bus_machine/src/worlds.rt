@@ -134,12 +134,13 @@ impl<Q: Ratifier + Drop> World<Q> {
     /// on without an end. Each receiver has a passed place, in which it says behind each frame how
     /// far it has come, and where no frame fits any more before the least of them a sender answers
     /// Full. With a page it is the next sitting, as `after`, where each next number is below 2^48
-    /// - 2^44 - 16.
+    /// - B * (2^40 + 1), of batches of B messages.
     pub fn ring(alloc: Global, shape: Shape, page: Option<&Page>) -> Result<World<Q>, MakeFault>
         ensures made { let X = election_of Q.Ratifier in
             IfOk result (IsMadeWith X Q.protocol shape (Some shape.rows) shape.receivers
             (bases_after (option_copied page.entry))) }
-        ensures follows { OnOk result (MayGoOn shape.receivers (option_copied page.entry)) }
+        ensures follows { OnOk result
+            (MayGoOn shape.receivers shape.batch (option_copied page.entry)) }
         ensures fault { IfErr result (RefusedWith shape.receivers shape (Some shape.rows)
             (option_copied page.entry)) }
     {
@@ -160,14 +161,14 @@ impl<Q: Ratifier + Drop> World<Q> {
         ensures made { let X = election_of Q.Ratifier in
             IfOk result (IsMadeWith X Q.protocol shape reuse passers
             (bases_after (option_copied page.entry))) }
-        ensures follows { OnOk result (MayGoOn passers (option_copied page.entry)) }
+        ensures follows { OnOk result (MayGoOn passers shape.batch (option_copied page.entry)) }
         ensures fault { IfErr result
             (RefusedWith passers shape reuse (option_copied page.entry)) }
     {
         if let Some(fault) = fault_of(shape, reuse) {
             return Err(fault);
         }
-        let bases = first_numbers(page, passers)?;
+        let bases = first_numbers(page, passers, shape.batch)?;
         let width = Election::<Q>::width(shape.senders, shape.rounds);
         let first = log_word(shape, reuse, width);
         let log = first + PASSED_APART * passers;

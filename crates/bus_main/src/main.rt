@@ -19,6 +19,7 @@ ghost use Rattle.bus_commands.specs.Tasks.{ReadsInput};
 use bus_adoptcommit::ThreeWord;
 use bus_commands::answering::{answer, print};
 use bus_commands::command_line::{Task, parse};
+use bus_commands::log::most_of;
 use bus_commands::streams::{JOURNAL_LIMIT, LOG_LIMIT, SCRIPT_LIMIT, read_whole};
 use bus_journal::{JournalEnd, JournalFault, read_journal};
 use bus_reasons::{Reads, reason_of};
@@ -74,7 +75,9 @@ fn do_task<R: AllocGlobal + Input + Print + Eprint + Threads + Wait + Sync>(
         Task::Trace => do_reading(rt, task, Some(Reads::Replay), SCRIPT_LIMIT),
         Task::Picture => do_reading(rt, task, Some(Reads::Replay), SCRIPT_LIMIT),
         Task::Webpage(_) => do_reading(rt, task, Some(Reads::Replay), SCRIPT_LIMIT),
-        Task::Log { senders } => do_reading(rt, task, Some(Reads::Log { senders }), LOG_LIMIT),
+        Task::Log { senders, batch } => {
+            do_reading(rt, task, Some(Reads::Log { senders, batch }), LOG_LIMIT)
+        }
         Task::Journal | Task::Repair => do_reading(rt, task, None, JOURNAL_LIMIT),
         Task::RunLog(_) => end(rt, print(rt, rt.alloc(), task, &mut io::writer(rt))),
         Task::RunJournal(_) => end(rt, print(rt, rt.alloc(), task, &mut io::writer(rt))),
@@ -143,7 +146,9 @@ fn answer_again(alloc: Global, reads: Reads, input: &[u8]) -> Result<Answer, NoM
     match reads {
         Reads::Ratify => bus_ratify::answer_to(alloc, input),
         Reads::Replay => bus_replay::answer_to::<ThreeWord>(alloc, input),
-        Reads::Log { senders } => bus_logtext::read_log_text(alloc, input, senders),
+        Reads::Log { senders, batch } => {
+            bus_logtext::read_log_text(alloc, input, senders, most_of(batch))
+        }
     }
 }
 

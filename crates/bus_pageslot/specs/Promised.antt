@@ -1,11 +1,12 @@
 -- What is promised of the seats of a table, whenever its rule holds.
-use Rattle.std.specs.Prelude.{◌≡◌, ℕ, ◌<◌, ◌≤◌, ◌⊎◌, List, [], drop, length, Option, slice_index}
+use Rattle.std.specs.Prelude.{◌≡◌, ℕ, ◌<◌, ◌≤◌, ◌⊎◌, List, [], All, drop, length, Option}
+use Rattle.std.specs.Prelude.{slice_index}
 use Rattle.bus_automaton.specs.Lawful.{floor_in, log_from_floor}
 use mathlib.Core.Option.{some}
 use lib.ListN.{get_elem?}
 use Rattle.atomic_table.specs.Table.{State}
 use Rattle.bus_register.specs.declared.registers.SenderNo.{SenderNo}
-use Rattle.bus_batch.specs.Frames.{Order, Spells}
+use Rattle.bus_batch.specs.Frames.{Order, Spells, items_of}
 use Rattle.bus_deliverylog.specs.declared.receiving.RecvTurn.{RecvTurn}
 use Rattle.bus_tenure.specs.declared.pages.Page.{Page}
 use Rattle.bus_world.specs.Headline.{Action, IsPrefix, Promises}
@@ -69,6 +70,8 @@ pub record IsPromised {C : Type 0} (P : Process C) (x : TableLayout) (base : ℕ
   pub order : Order
   pub owners : List (ℕ × SenderNo)
   pub spelled : Spells x.senders log order owners
+  -- none of its frames has more messages than a batch may have
+  pub few : All (λ f. length (items_of f) ≤ x.batch) spelled.frames
   pub promises : (heard : ℕ → List RecvTurn) → ((r : ℕ) → IsShownTrail s (heard r))
       → Promises base actions heard order owners
   pub views : (j : ℕ) (v : View C) → get_elem? s.views j ≡ some v

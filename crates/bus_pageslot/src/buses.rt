@@ -6,7 +6,7 @@ ghost use Rattle.std.specs.Vec.{vec_len, vec_capacity};
 ghost use Rattle.std.specs.Option.{option_copied};
 ghost use Rattle.bus_machine.specs.Playing.{IsServed, MakeRefused, ShapeOf, MayFollow, MayGoOn};
 ghost use Rattle.bus_machine.specs.Playing.{IsFollowed, AfterRefused, MakeRefusedAfter};
-ghost use Rattle.bus_machine.specs.Playing.{RefusedWith};
+ghost use Rattle.bus_machine.specs.Playing.{RefusedWith, IsBatch};
 ghost use Rattle.bus_automaton.specs.Buses.{process_by, automaton_by, Serves, Refuses};
 ghost use Rattle.bus_automaton.specs.Buses.{plan_after, plan_passers, new_plan, cyclic_plan};
 ghost use Rattle.bus_automaton.specs.Buses.{ring_plan};
@@ -79,7 +79,8 @@ impl<Q: Ratifier> Model for Bus<Q> {
 impl<Q: Ratifier + Drop> Bus<Q> {
     /// A new bus of this shape with a row of words for each tenure, with its words at zero and its
     /// page at home, and each of its senders and receivers, in order. All memory is taken here: no
-    /// later call takes any.
+    /// later call takes any. A batch has at most 16 messages, and where the shape says another
+    /// number the answer is Batch.
     pub fn new(
         alloc: Global,
         shape: Shape,
@@ -95,6 +96,7 @@ impl<Q: Ratifier + Drop> Bus<Q> {
         ensures table { IfOk result (λ made. All (λ s. table_of s ≡ made.0.table) made.1.items
             × All (λ t. t.table_id ≡ made.0.table) made.2.items) }
         ensures served { IfOk result (λ _. IsServed shape None) }
+        ensures batch { OnOk result (IsBatch 0 shape.batch) }
         ensures fault { IfErr result (MakeRefused shape None) }
     {
         make(alloc, Plan::new(shape), None)
@@ -122,6 +124,7 @@ impl<Q: Ratifier + Drop> Bus<Q> {
         ensures table { IfOk result (λ made. All (λ s. table_of s ≡ made.0.table) made.1.items
             × All (λ t. t.table_id ≡ made.0.table) made.2.items) }
         ensures served { IfOk result (λ _. IsServed shape None) }
+        ensures batch { OnOk result (IsBatch 0 shape.batch) }
         ensures follows { OnOk result (IsFollowed page.now) }
         ensures fault { IfErr result (AfterRefused shape None page.now) }
     {
@@ -153,6 +156,7 @@ impl<Q: Ratifier + Drop> Bus<Q> {
         ensures table { IfOk result (λ made. All (λ s. table_of s ≡ made.0.table) made.1.items
             × All (λ t. t.table_id ≡ made.0.table) made.2.items) }
         ensures served { IfOk result (λ _. IsServed shape (Some shape.rows)) }
+        ensures batch { OnOk result (IsBatch 0 shape.batch) }
         ensures follows { OnOk result (MayFollow (option_copied page.entry)) }
         ensures fault { IfErr result
             (MakeRefusedAfter shape (Some shape.rows) (option_copied page.entry)) }
@@ -165,6 +169,10 @@ impl<Q: Ratifier + Drop> Bus<Q> {
     /// as the slowest has passed. Behind that the answer is Full: for now, or for good where the
     /// frame is longer than the log. A receiver that stops without leaving stops whoever needs its
     /// room.
+    ///
+    /// A batch has at most as many messages as its shape says, 1 to 64; with another number the
+    /// answer is Batch. With batches of B messages each next number of a page is to be below
+    /// 2^48 - B * (2^40 + 1), and else the answer is Numbers.
     pub fn ring(
         alloc: Global,
         shape: Shape,
@@ -183,7 +191,9 @@ impl<Q: Ratifier + Drop> Bus<Q> {
         ensures table { IfOk result (λ made. All (λ s. table_of s ≡ made.0.table) made.1.items
             × All (λ t. t.table_id ≡ made.0.table) made.2.items) }
         ensures served { IfOk result (λ _. IsServed shape (Some shape.rows)) }
-        ensures follows { OnOk result (MayGoOn shape.receivers (option_copied page.entry)) }
+        ensures batch { OnOk result (IsBatch shape.receivers shape.batch) }
+        ensures follows { OnOk result (MayGoOn shape.receivers shape.batch
+            (option_copied page.entry)) }
         ensures fault { IfErr result
             (RefusedWith shape.receivers shape (Some shape.rows) (option_copied page.entry)) }
     {
@@ -303,7 +313,9 @@ fn make<Q: Ratifier + Drop>(
     ensures table { IfOk result (λ made. All (λ s. table_of s ≡ made.0.table) made.1.items
         × All (λ t. t.table_id ≡ made.0.table) made.2.items) }
     ensures served { IfOk result (λ _. IsServed plan.shape plan.reuse) }
-    ensures follows { OnOk result (MayGoOn (plan_passers plan) (option_copied page.entry)) }
+    ensures batch { OnOk result (IsBatch (plan_passers plan) plan.shape.batch) }
+    ensures follows { OnOk result (MayGoOn (plan_passers plan) plan.shape.batch
+        (option_copied page.entry)) }
     ensures fault { IfErr result (Refuses plan (option_copied page.entry)) }
 {
     if let Some(fault) = fault_of(plan.shape, plan.reuse) {

@@ -7,7 +7,7 @@ ghost use mathlib.Core.Option.{some};
 ghost use lib.ListN.{get_elem?};
 ghost use Rattle.bus_batch.specs.Frames.{IsLog};
 ghost use Rattle.bus_register.specs.Words.{register};
-ghost use Rattle.bus_register.specs.declared.limits.TheConstants.{MOST_MESSAGES, PASSED_ALL};
+ghost use Rattle.bus_register.specs.declared.limits.TheConstants.{PASSED_ALL};
 ghost use Rattle.bus_register.specs.declared.registers.Op.{Op};
 ghost use Rattle.bus_register.specs.declared.registers.Op.TheVariants.{Load, Store};
 ghost use Rattle.bus_register.specs.declared.registers.SenderNo.{SenderNo};
@@ -238,7 +238,7 @@ pub fn tables_are_machines<Q: Ratifier>()
 /// Whichever seat shows a sender, alone or joined to a receiver's, the sender has the layout of the
 /// table that the seat is of, also once it has accepted more. So what a sender tells by its own,
 /// as how many words its log has and how many senders its bus has, is so of that table. Its batch
-/// has at most 16 messages, as of each bus so far.
+/// has at most as many messages as the bus's shape says.
 pub fn senders_go_by_their_table<Q: Ratifier>()
     ensures layout { let P = process_by Q.Ratifier in let A = automaton_by Q.Ratifier in
         (plan : Plan) (s : State (Option Page) (View (Sender (Elector Q)))) (seat : ℕ)
@@ -249,7 +249,7 @@ pub fn senders_go_by_their_table<Q: Ratifier>()
         (plan : Plan) (s : State (Option Page) (View (Sender (Elector Q)))) (seat : ℕ)
         (v d : Sender (Elector Q)) (sender_trail : SenderTrail) (actions : List Action)
         → TableInvariant P (A plan) s → Shown s seat v sender_trail → Accepts P v d actions
-        → (P.queue d).limit ≡ MOST_MESSAGES }
+        → (P.queue d).limit ≡ plan.shape.batch }
 {
     threads_may_go_by::<Q>();
 }

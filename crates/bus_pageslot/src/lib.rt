@@ -11,7 +11,8 @@
 //! use bus_world::Shape;
 //! use rand_pcg::Pcg32;
 //!
-//! let shape = Shape { senders: 1, receivers: 1, rounds: 1, rows: 2, log_words: 16 };
+//! let shape =
+//!     Shape { senders: 1, receivers: 1, rounds: 1, rows: 2, log_words: 16, batch: 16 };
 //! let (bus, mut senders, mut taps) = Bus::<ThreeWord>::new(rt.alloc(), shape)?;
 //! let mut sender = senders.pop().context("a sender")?;
 //! let mut tap = taps.pop().context("a tap")?;

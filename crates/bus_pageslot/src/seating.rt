@@ -22,7 +22,6 @@ use bus_core::SenderCore;
 use bus_core::limits::PASSED_APART;
 use bus_machine::shapes::log_word;
 use bus_ownerbits::Election;
-use bus_register::limits::MOST_MESSAGES;
 use bus_register::{NoMemory, SenderNo};
 use bus_world::starts::first_page;
 use std::alloc::Global;
@@ -59,7 +58,7 @@ fn start<Q: Ratifier + Drop>(plan: Plan, me: SenderNo) -> SenderCore<Q>
     let shape = plan.shape;
     let (senders, rounds, words) = (shape.senders, shape.rounds, shape.log_words);
     let first = plan.bases[usize::from(me.0)];
-    let batch = MOST_MESSAGES as u64;
+    let batch = shape.batch;
     match plan.reuse {
         None => SenderCore::new(senders, me, rounds, shape.rows, words, first, batch),
         Some(rows) => {

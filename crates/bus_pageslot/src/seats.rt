@@ -101,8 +101,8 @@ impl fmt::Display for Unsent {
     }
 }
 
-/// How many plain stores `send_while` takes in a row at most: a frame has 129 words, and most rows
-/// have fewer.
+/// How many plain stores `send_while` takes in a row at most: a frame has at most 513 words, and
+/// most rows have fewer than these.
 const MOST_PLAIN_TURNS: u64 = 256;
 
 /// A sender of a bus: what it holds, and the seat that it steps with. One thread at a time has it.
@@ -166,7 +166,7 @@ impl<Q: Ratifier + Drop> Sender<Q> {
         self.core.pending()
     }
 
-    /// How many messages its batch has at most: as many as its bus says, 1 to 16.
+    /// How many messages its batch has at most: as many as its bus says, 1 to 64.
     pub fn batch_limit(&self) -> u64
         ensures limit { result ≡ limit_of (process_by Q.Ratifier) self.now }
         ensures bus { result ≡ ((process_by Q.Ratifier).table_layout self.now.core).batch }

@@ -3,16 +3,23 @@
 use crate::forms::{are_digits, other_input, spacing_of};
 use crate::reasons::{Reason, Word};
 use crate::refusals::{Refusal, Spot, line_at};
+use bus_register::limits::MOST_MESSAGE_WORDS;
 use bus_script::{Lines, Words};
 
-/// Why these lines, told as a log of so many senders, were refused so.
-pub fn log_reason<'a>(senders: u64, input: &'a [u8], refusal: Refusal<'_>) -> Option<Reason<'a>> {
+/// Why these lines, told as a log of so many senders, with so many messages in a frame at most,
+/// were refused so.
+pub fn log_reason<'a>(
+    senders: u64,
+    batch: u64,
+    input: &'a [u8],
+    refusal: Refusal<'_>,
+) -> Option<Reason<'a>> {
     match refusal.spot {
         Spot::End => Some(Reason::Note(
             "the words end within a frame: the last words of the log are missing",
         )),
         Spot::Line(number) => Some(line_reason(line_at(Lines::new(input), number)?.bytes)),
-        Spot::Word(place) => Some(word_reason(senders, head_at(input, place))),
+        Spot::Word(place) => Some(word_reason(senders, batch, head_at(input, place))),
     }
 }
 
@@ -74,7 +81,7 @@ fn word_of(line: &[u8]) -> u64 {
 }
 
 /// Why no log goes on with a word, which is this one if a frame begins there.
-fn word_reason(senders: u64, head: Option<u64>) -> Reason<'static> {
+fn word_reason(senders: u64, batch: u64, head: Option<u64>) -> Reason<'static> {
     let unknown = Reason::Note(
         "no log goes on with this word: docs/FORMATS.md says which words are bad, under 'Frames'",
     );
@@ -84,6 +91,13 @@ fn word_reason(senders: u64, head: Option<u64>) -> Reason<'static> {
     let owner = (word >> 54) & 0xff;
     if word >> 62 == 1 && owner >= senders {
         return Reason::Owner { owner, senders };
+    }
+    let count = (word >> 40) & 0x3fff;
+    if word >> 62 == 1 && count > MOST_MESSAGE_WORDS.saturating_mul(batch) {
+        return Reason::Note(
+            "its frame has more words than a batch may have: --batch says how many messages that \
+            has, and 16 where it is left out",
+        );
     }
     unknown
 }

@@ -4,14 +4,15 @@ use crate::forms::{are_digits, number_at, numbers_of, other_input, outside, spac
 use crate::reasons::{Reason, Word};
 use crate::refusals::{Refusal, Spot, line_at};
 use bus_register::limits::{
-    LEAST_LOG_WORDS, MOST_BYTES, MOST_LOG_WORDS, MOST_RECEIVERS, MOST_ROUNDS, MOST_ROWS,
-    MOST_SENDERS,
+    LEAST_LOG_WORDS, MOST_BYTES, MOST_LOG_WORDS, MOST_MESSAGES, MOST_RECEIVERS, MOST_ROUNDS,
+    MOST_ROWS, MOST_SENDERS,
 };
 use bus_script::{Lines, Words};
 
 /// The first line of a script.
 const FIRST: Reason<'static> = Reason::Note(
-    "the first line is 'shape N M R T L', 'cycle' or 'ring' in its place; 'ring' may end with S",
+    "the first line is 'shape N M R T L', 'cycle' or 'ring' in its place; 'ring' may end with S, \
+    or S B",
 );
 
 /// Turns that one line asks for, at most.
@@ -49,14 +50,19 @@ fn first_reason(line: &[u8]) -> Option<Reason<'_>> {
         Ok("cycle") => numbers_of(words, 5, "cycle N M R T L").or(sizes_reason(line, 2, 8)),
         Ok("ring") => ring_numbers(line, words)
             .or(sizes_reason(line, 2, 8))
-            .or(seats_reason(line)),
+            .or(seats_reason(line))
+            .or(batch_reason(line)),
         Ok("put" | "close" | "turn" | "recv" | "stop" | "leave" | "gone" | "fork") => Some(FIRST),
         _ => Some(other_input(first).unwrap_or(FIRST)),
     }
 }
 
-/// What is wrong with the numbers of a ring, of which a sixth says how many seats there are.
+/// What is wrong with the numbers of a ring, of which a sixth says how many seats there are, and a
+/// seventh how many messages a batch may have.
 fn ring_numbers<'a>(line: &[u8], words: Words<'a>) -> Option<Reason<'a>> {
+    if word_at(line, 7).is_some() {
+        return numbers_of(words, 7, "ring N M R T L S B");
+    }
     match word_at(line, 6) {
         None => numbers_of(words, 5, "ring N M R T L"),
         Some(_) => numbers_of(words, 6, "ring N M R T L S"),
@@ -70,6 +76,16 @@ fn seats_reason(line: &[u8]) -> Option<Reason<'static>> {
         number_at(line, 6)?,
         number_at(line, 2)?,
         MOST_RECEIVERS,
+    )
+}
+
+/// That batches of so many messages are not served, if they are not.
+fn batch_reason(line: &[u8]) -> Option<Reason<'static>> {
+    outside(
+        "the number B of messages in a batch",
+        number_at(line, 7)?,
+        1,
+        MOST_MESSAGES as u64,
     )
 }
 
@@ -145,7 +161,9 @@ fn state_note(name: &str) -> Option<&'static str> {
         "NotAbove" => Some("a receiver forks to a number above its own, and to no other"),
         "Closed" => Some("the sender has closed or left, or its order has ended: it takes no more"),
         "Busy" => Some("the sender's batch is on its way: take turns until 'delivered'"),
-        "BatchFull" => Some("16 messages wait at the sender, and no more can: take turns first"),
+        "BatchFull" => Some(
+            "as many messages wait at the sender as a batch may have: take turns first",
+        ),
         "Pending" => Some(
             "messages wait at the sender: take turns until 'delivered', then close or leave",
         ),

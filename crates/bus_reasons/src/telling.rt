@@ -12,8 +12,8 @@ use std::alloc::{AllocError, Global};
 pub enum Reads {
     Ratify,
     Replay,
-    /// `log`, of so many senders.
-    Log { senders: u64 },
+    /// `log`, of so many senders, with so many messages in a frame at most.
+    Log { senders: u64, batch: u64 },
 }
 
 /// Why this refusal of the input.
@@ -21,7 +21,7 @@ fn reason_at<'a>(command: Reads, input: &'a [u8], refusal: Refusal<'_>) -> Optio
     match command {
         Reads::Ratify => ratify_reason(input, refusal),
         Reads::Replay => replay_reason(input, refusal),
-        Reads::Log { senders } => log_reason(senders, input, refusal),
+        Reads::Log { senders, batch } => log_reason(senders, batch, input, refusal),
     }
 }
 

@@ -23,8 +23,8 @@ pub use bus_pageslot::{
     Bus, EndFault, Ended, ItemTurn, Left, NeverFits, OfBus, SendFault, Sender, Tap, Unsent,
 };
 pub use bus_register::limits::{
-    LEAST_LOG_WORDS, MOST_BYTES, MOST_LOG_WORDS, MOST_MESSAGES, MOST_RECEIVERS, MOST_ROUNDS,
-    MOST_ROWS, MOST_SENDERS,
+    LEAST_LOG_WORDS, LOG_MESSAGES, MOST_BYTES, MOST_LOG_WORDS, MOST_MESSAGES, MOST_RECEIVERS,
+    MOST_ROUNDS, MOST_ROWS, MOST_SENDERS,
 };
 pub use bus_register::{Kind, SenderNo};
 pub use bus_tenure::{Page, Turn};

@@ -1,15 +1,16 @@
-//! What a sitting takes of a bus, as sums.
+//! What a sitting takes of a bus whose log is no ring, as sums.
 
 ghost use Rattle.std.specs.Prelude.{◌≡◌, ◌-◌, ◌^◌, min};
 ghost use Rattle.bus_receiver.specs.Sizes.{batches_of, tenures_of, words_of, room_before_close};
 
-use bus_register::limits::{MOST_FRAME_WORDS, MOST_MESSAGES};
+use bus_register::limits::{LOG_FRAME_WORDS, LOG_MESSAGES};
 
-/// How many batches of at most 16 a sender makes of so many messages.
+/// How many batches of at most 16, which are the most without a ring, a sender makes of so many
+/// messages.
 fn batches(messages: u64) -> u128
     ensures { result ≡ batches_of messages }
 {
-    (u128::from(messages) + (MOST_MESSAGES as u128 - 1)) / MOST_MESSAGES as u128
+    (u128::from(messages) + (LOG_MESSAGES as u128 - 1)) / LOG_MESSAGES as u128
 }
 
 /// How many tenures a sitting takes in which each of so many senders sends so many messages, in
@@ -36,13 +37,14 @@ pub fn words_needed(senders: u64, messages: u64, bytes: u64) -> u64
     u64::try_from(words).unwrap_or(u64::MAX)
 }
 
-/// How many words of a log of so many may be in use when one of so many senders begins a batch or a
-/// leave, so that the end mark still fits, whatever the others do; 0 where there is no such number.
+/// How many words of a log of so many, which is no ring, may be in use when one of so many senders
+/// begins a batch or a leave, so that the end mark still fits, whatever the others do; 0 where
+/// there is no such number.
 /// Right before it puts or leaves each sender looks at its own `words`, and begins nothing above
 /// this number: so it has at most one frame behind that place, and no other length is loaded.
 pub fn room_to_close(log_words: u64, senders: u64) -> u64
     ensures { result ≡ room_before_close log_words senders }
 {
-    let frames = senders.saturating_mul(MOST_FRAME_WORDS as u64);
+    let frames = senders.saturating_mul(LOG_FRAME_WORDS as u64);
     log_words.saturating_sub(2).saturating_sub(frames)
 }

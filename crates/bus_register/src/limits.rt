@@ -21,8 +21,11 @@ pub const LEAST_LOG_WORDS: u64 = 16;
 /// Words of a bus's log: at most 65,536.
 pub const MOST_LOG_WORDS: u64 = 65_536;
 
-/// Messages of one batch, hence of one frame: at most 16.
-pub const MOST_MESSAGES: usize = 16;
+/// Messages of one batch, hence of one frame: at most 64.
+pub const MOST_MESSAGES: usize = 64;
+
+/// Messages of one batch of a bus whose log is no ring: at most 16.
+pub const LOG_MESSAGES: usize = 16;
 
 /// Bytes of one message: at most 56.
 pub const MOST_BYTES: usize = 56;
@@ -31,11 +34,14 @@ pub const MOST_BYTES: usize = 56;
 /// 8.
 pub const MOST_MESSAGE_WORDS: u64 = 8;
 
-/// Words of a frame behind its head: at most 128.
-pub const MOST_BODY_WORDS: u64 = 128;
+/// Words of a frame behind its head: at most 512.
+pub const MOST_BODY_WORDS: u64 = 512;
 
-/// Words of a frame, its head included: at most 129.
-pub const MOST_FRAME_WORDS: usize = 129;
+/// Words of a frame, its head included: at most 513.
+pub const MOST_FRAME_WORDS: usize = 513;
+
+/// Words of a frame of a bus whose log is no ring, its head included: at most 129.
+pub const LOG_FRAME_WORDS: usize = 129;
 
 /// The number of a message stays below 2^48.
 pub const NUMBERS: u64 = 0x0001_0000_0000_0000;

@@ -9,15 +9,17 @@ use Rattle.std.proofs.lemmas.List.FromFn.{length-map-range_with_len, get_or-map-
 use Rattle.std.proofs.lemmas.Option.{slice_get-get_or}
 use Rattle.bus_register.specs.Protocol.{Protocol}
 use Rattle.bus_register.specs.declared.limits.TheConstants.{MOST_RECEIVERS, TENURES}
+use Rattle.bus_register.specs.declared.limits.TheConstants.{MOST_MESSAGES}
 use Rattle.bus_adoptcommit.specs.declared.verdicts.Verdict.{Verdict}
 use Rattle.bus_tenure.specs.Core.{Election, Layout}
 use Rattle.bus_tenure.specs.Elections.{Elector}
+use Rattle.bus_world.specs.Playing.{Within}
 use Rattle.bus_world.specs.World.{Gone, no_bases}
 use Rattle.bus_world.specs.declared.events.Answer.TheVariants as answer
 use Rattle.bus_world.specs.declared.shapes.Shape.{Shape}
 use Rattle.bus_machine.proofs.Bases.AtNone.{event_reuse}
 use Rattle.bus_machine.specs.Machine.{Machine, Reached, Then, log_place, no_machine_trails}
-use Rattle.bus_machine.specs.Playing.{IsMadeWith, ShapeOf}
+use Rattle.bus_machine.specs.Playing.{IsBatch, IsMadeWith, ShapeOf}
 use Rattle.bus_machine.specs.Promise.{HasRows}
 use Rattle.bus_replay.specs.Answers.{Empties, IsOpened, seats_at_first}
 use Rattle.bus_replay.specs.Histories.{Kept, HasSizes, IsHistoryOf, no_given}
@@ -41,6 +43,11 @@ seat_is seats receivers r low =
     slice_get-get_or (map f (range_with_len 0 seats)) r no_given (omega arith)
     ∙ ap Some (get_or-map-range_with_len f 0 seats r r no_given low (omega arith))
 
+-- a batch has a message, and no more than a frame may have
+some_batch : (passers batch : ℕ) → IsBatch passers batch → Within 1 MOST_MESSAGES batch
+some_batch zero batch is = (omega (arith, is), omega (arith, is))
+some_batch (suc passers) batch is = is
+
 module _ {S : Type 0} (X : Election (Elector S)) (P : Protocol S Bool Verdict) where
   made_sized : (shape : Shape) (reuse : Option ℕ) (passers : ℕ) (bases : List ℕ)
       (m : Machine (Elector S)) → ShapeOf shape reuse → passers ≤ MOST_RECEIVERS
@@ -51,14 +58,14 @@ module _ {S : Type 0} (X : Election (Elector S)) (P : Protocol S Bool Verdict) w
     rows = shape.rows;
     capacity = shape.log_words;
     passers = passers;
-    batch = 16;
+    batch = shape.batch;
     layout = h.layout;
     served = record {
       senders = h.served.senders.1;
       rows = (let low = h.served.rows.1 in omega arith);
       capacity = h.served.log_words.1;
       passers = few;
-      batch = (omega arith, omega arith);
+      batch = some_batch passers shape.batch h.batch;
     };
     some = subst (λ (x : Layout). 0 < x.capacity) (sym h.layout)
         (let low = h.served.log_words.0 in omega arith);
@@ -73,14 +80,14 @@ module _ {S : Type 0} (X : Election (Elector S)) (P : Protocol S Bool Verdict) w
     rows = TENURES;
     capacity = shape.log_words;
     passers = passers;
-    batch = 16;
+    batch = shape.batch;
     layout = h.layout;
     served = record {
       senders = h.served.senders.1;
       rows = omega arith;
       capacity = h.served.log_words.1;
       passers = few;
-      batch = (omega arith, omega arith);
+      batch = some_batch passers shape.batch h.batch;
     };
     some = subst (λ (x : Layout). 0 < x.capacity) (sym h.layout)
         (let low = h.served.log_words.0 in omega arith);

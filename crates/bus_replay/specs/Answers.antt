@@ -21,7 +21,7 @@ use Rattle.bus_world.specs.declared.shapes.MakeFault.{MakeFault}
 use Rattle.bus_world.specs.declared.shapes.MakeFault.TheVariants as make
 use Rattle.bus_machine.specs.Machine.{Machine, Trails, Reached as ReachedBy, ShowsLog}
 use Rattle.bus_machine.specs.Machine.{Forks, no_machine_trails, trails_grown, trails_joined}
-use Rattle.bus_machine.specs.Playing.{IsMadeWith, IsServed, MakeRefused, Answers}
+use Rattle.bus_machine.specs.Playing.{IsMadeWith, IsServed, NewRefused, Answers}
 use Rattle.bus_machine.specs.Playing.{Refused as RefusedBy}
 use Rattle.bus_machine.specs.Promise.{TakersTold}
 use Rattle.bus_script.specs.declared.line_numbers.LineNumber.TheVariants.{AtLine, AtEnd}
@@ -51,6 +51,12 @@ abbrev pub SeatsRefused : FirstLine → Type 0
 SeatsRefused first =
     IsServed (shape_in first) (reuse_in first)
     × Beyond (shape_in first).receivers MOST_RECEIVERS (seats_in first)
+
+-- for this no bus is made; and where it is its batches, its seats are well
+abbrev pub NoBus : FirstLine → MakeFault → Type 0
+NoBus first why =
+    NewRefused (passers_in first) (shape_in first) (reuse_in first) why
+    × (why ≡ make.Batch → AreSeats first)
 
 -- which seats have or had a receiver: those of the receivers at first, and each to which a receiver
 -- has forked
@@ -214,8 +220,7 @@ module _ {S : Type 0} (X : Election (Elector S)) (P : Protocol S Bool Verdict) w
   Begins number None lines outcome whole =
       (outcome ≡ Refused) × (whole ≡ refusal_line (AtLine number) (codes "BadLine"))
   Begins number (Some first) lines outcome whole =
-      ((why : MakeFault) × MakeRefused (shape_in first) (reuse_in first) why × (why ≢ make.NoMemory)
-      × (outcome ≡ Refused)
+      ((why : MakeFault) × NoBus first why × (why ≢ make.NoMemory) × (outcome ≡ Refused)
       × (whole ≡ refusal_line (AtLine number) (make_fault_name why)))
       ⊎ ((SeatsRefused first × (outcome ≡ Refused)
       × (whole ≡ refusal_line (AtLine number) (codes "Seats")))

@@ -4,6 +4,7 @@ use Rattle.std.specs.Prelude.{Option, Some, None, codes, nat_lt, nat_le, if◌th
 use Rattle.std.specs.Prelude.{option_and_then}
 use Rattle.std.specs.Option.{option_map}
 use Rattle.std.specs.Str.{bytes_eq}
+use Rattle.bus_register.specs.declared.limits.TheConstants.{LOG_MESSAGES}
 use Rattle.bus_batch.specs.declared.messages.Mark.TheVariants as mark
 use Rattle.bus_world.specs.World.{Event, Put, Ask, Turn, Recv, Stop, Gone}
 use Rattle.bus_world.specs.declared.shapes.Shape.{Shape}
@@ -52,6 +53,17 @@ or_else None y = y
 abbrev pub numbers_behind : List ℕ → List ℕ → Option (List ℕ)
 numbers_behind keyword line = option_and_then (each_of number_of) (arguments_of keyword line)
 
+-- these sizes, with so many messages in a batch
+abbrev pub shape_with : (senders receivers rounds rows log_words batch : ℕ) → Shape
+shape_with n m r t l b = record {
+  senders = n;
+  receivers = m;
+  rounds = r;
+  rows = t;
+  log_words = l;
+  batch = b;
+}
+
 -- five numbers: senders, receivers, rounds, rows, log words
 abbrev pub shape_from : List ℕ → Option Shape
 shape_from [] = None
@@ -59,8 +71,7 @@ shape_from (n ∷ []) = None
 shape_from (n ∷ m ∷ []) = None
 shape_from (n ∷ m ∷ r ∷ []) = None
 shape_from (n ∷ m ∷ r ∷ t ∷ []) = None
-shape_from (n ∷ m ∷ r ∷ t ∷ l ∷ []) =
-    Some (record { senders = n; receivers = m; rounds = r; rows = t; log_words = l })
+shape_from (n ∷ m ∷ r ∷ t ∷ l ∷ []) = Some (shape_with n m r t l LOG_MESSAGES)
 shape_from (n ∷ m ∷ r ∷ t ∷ l ∷ x ∷ more) = None
 
 -- what a line `shape N M R T L` says
@@ -71,20 +82,20 @@ shape_of line = option_and_then shape_from (numbers_behind (codes "shape") line)
 abbrev pub cycle_of : List ℕ → Option Shape
 cycle_of line = option_and_then shape_from (numbers_behind (codes "cycle") line)
 
--- five numbers, and as many seats as receivers; or a sixth, which is how many seats there are
+-- five numbers, and as many seats as receivers; or a sixth, which is how many seats there are; or a
+-- seventh, which is how many messages a batch may have
 abbrev pub ring_from : List ℕ → Option FirstLine
 ring_from [] = None
 ring_from (n ∷ []) = None
 ring_from (n ∷ m ∷ []) = None
 ring_from (n ∷ m ∷ r ∷ []) = None
 ring_from (n ∷ m ∷ r ∷ t ∷ []) = None
-ring_from (n ∷ m ∷ r ∷ t ∷ l ∷ []) =
-    Some (Ringed (record { senders = n; receivers = m; rounds = r; rows = t; log_words = l }) m)
-ring_from (n ∷ m ∷ r ∷ t ∷ l ∷ s ∷ []) =
-    Some (Ringed (record { senders = n; receivers = m; rounds = r; rows = t; log_words = l }) s)
-ring_from (n ∷ m ∷ r ∷ t ∷ l ∷ s ∷ x ∷ more) = None
+ring_from (n ∷ m ∷ r ∷ t ∷ l ∷ []) = Some (Ringed (shape_with n m r t l LOG_MESSAGES) m)
+ring_from (n ∷ m ∷ r ∷ t ∷ l ∷ s ∷ []) = Some (Ringed (shape_with n m r t l LOG_MESSAGES) s)
+ring_from (n ∷ m ∷ r ∷ t ∷ l ∷ s ∷ b ∷ []) = Some (Ringed (shape_with n m r t l b) s)
+ring_from (n ∷ m ∷ r ∷ t ∷ l ∷ s ∷ b ∷ x ∷ more) = None
 
--- what a line `ring N M R T L` or `ring N M R T L S` says
+-- what a line `ring N M R T L`, `ring N M R T L S` or `ring N M R T L S B` says
 abbrev pub ring_of : List ℕ → Option FirstLine
 ring_of line = option_and_then ring_from (numbers_behind (codes "ring") line)
 

@@ -10,7 +10,6 @@ use Rattle.bus_world.specs.World.{Event}
 use Rattle.bus_world.specs.declared.events.Answer.{Answer}
 use Rattle.bus_world.specs.declared.shapes.Shape.{Shape}
 use Rattle.bus_machine.specs.Machine.{Machine, Trails}
-use Rattle.bus_machine.specs.Playing.{MakeRefused}
 use Rattle.bus_script.specs.Grammar.{and_before}
 use Rattle.bus_script.specs.declared.answers.Outcome.{Outcome}
 use Rattle.bus_script.specs.declared.answers.Outcome.TheVariants.{Done, Refused}
@@ -20,7 +19,7 @@ use Rattle.bus_replay.specs.declared.lines.FirstLine.{FirstLine}
 use Rattle.bus_replay.specs.declared.lines.FirstFault.{FirstFault}
 use Rattle.bus_replay.specs.declared.lines.FirstFault.TheVariants as first_fault
 use Rattle.bus_replay.specs.Lines.{Command, Plays, ForksTo, shape_in, reuse_in}
-use Rattle.bus_replay.specs.Answers.{End, Left, Stopped, Repeats, Prints, SeatsRefused}
+use Rattle.bus_replay.specs.Answers.{End, Left, Stopped, Repeats, Prints, SeatsRefused, NoBus}
 use Rattle.bus_replay.specs.Answers.{repeat_trails, printed_trails, printed_seats}
 use Rattle.bus_replay.specs.Histories.{Kept, IsHistoryOf, AreNobodys}
 use Rattle.bus_replay.specs.Text.{make_fault_name}
@@ -43,7 +42,7 @@ first_fault_name (first_fault.Make why) = make_fault_name why
 first_fault_name first_fault.Seats = codes "Seats"
 
 abbrev pub FirstRefused : FirstLine → FirstFault → Type 0
-FirstRefused first (first_fault.Make why) = MakeRefused (shape_in first) (reuse_in first) why
+FirstRefused first (first_fault.Make why) = NoBus first why
 FirstRefused first first_fault.Seats = SeatsRefused first
 
 module _ {S : Type 0} (X : Election (Elector S)) (P : Protocol S Bool Verdict) where

@@ -3,6 +3,7 @@
 ghost use Rattle.std.specs.Prelude.{◌≡◌, ◌⊎◌, [], None, Some, IfOk, IfSome, IfNone};
 ghost use Rattle.std.specs.Prelude.{MatchOption, codes, option_and_then};
 ghost use Rattle.std.specs.Option.{option_map};
+ghost use Rattle.bus_register.specs.declared.limits.TheConstants.{LOG_MESSAGES};
 ghost use Rattle.bus_script.specs.Grammar.{number_of, each_of, and_before, arguments_of};
 ghost use Rattle.bus_replay.specs.Lines.{shape_from, shape_of, ring_from, ring_of, first_of};
 ghost use Rattle.bus_replay.specs.Lines.{put_of, put_from, close_from, are_times};
@@ -13,6 +14,7 @@ ghost use Rattle.bus_replay.specs.Told.{command_told, sizes_before};
 
 use crate::commands::Command;
 use crate::hex::hex_of;
+use bus_register::limits::LOG_MESSAGES;
 use bus_script::{Words, number_of, words_behind};
 use bus_world::{Event, MakeFault, Shape};
 use std::alloc::{AllocError, Global};
@@ -36,8 +38,9 @@ pub enum FirstLine {
     Shape(Shape),
     /// `cycle N M R T L`: a bus whose rows are used again.
     Cycle(Shape),
-    /// `ring N M R T L`, or `ring N M R T L S`: a bus whose rows are used again, and whose log
-    /// words are. It has so many seats, of which the first have a receiver.
+    /// `ring N M R T L`, `ring N M R T L S` or `ring N M R T L S B`: a bus whose rows are used
+    /// again, and whose log words are. It has S seats, of which the first have a receiver; as many
+    /// as receivers where that is left out. A batch has at most B messages; 16 where that is.
     Ring { shape: Shape, seats: u64 },
 }
 
@@ -73,10 +76,11 @@ impl FirstLine {
     }
 }
 
-/// The sizes that stand behind a first line's keyword, and the words behind them.
+/// The sizes behind a first line's keyword, with batches of 16, and the words behind them.
 fn sizes_before<'a>(line: &'a [u8], keyword: &[u8]) -> Option<(Shape, Words<'a>)>
     ensures some { IfSome result (λ told. numbers_behind keyword.now line.entry.now
         ≡ sizes_before told.0 (each_of number_of told.1)) }
+    ensures batch { IfSome result (λ told. told.0.batch ≡ LOG_MESSAGES) }
     ensures none { IfNone result
         ((option_and_then shape_from (numbers_behind keyword.now line.entry.now) ≡ None)
         × (option_and_then ring_from (numbers_behind keyword.now line.entry.now) ≡ None)) }
@@ -93,6 +97,7 @@ fn sizes_before<'a>(line: &'a [u8], keyword: &[u8]) -> Option<(Shape, Words<'a>)
         rounds,
         rows,
         log_words,
+        batch: LOG_MESSAGES as u64,
     };
     Some((shape, words))
 }
@@ -118,9 +123,14 @@ fn ring_of(line: &[u8]) -> Option<FirstLine>
         return Some(FirstLine::Ring { shape, seats });
     };
     let seats = number_of(word)?;
+    let Some(word) = words.next_word() else {
+        return Some(FirstLine::Ring { shape, seats });
+    };
+    let batch = number_of(word)?;
     if words.next_word().is_some() {
         return None;
     }
+    let shape = Shape { batch, ..shape };
     Some(FirstLine::Ring { shape, seats })
 }
 

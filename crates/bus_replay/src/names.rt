@@ -65,6 +65,7 @@ pub fn make_fault_name(fault: MakeFault) -> &'static str
         MakeFault::Rounds => "Rounds",
         MakeFault::Rows => "Rows",
         MakeFault::LogWords => "LogWords",
+        MakeFault::Batch => "Batch",
         MakeFault::NotEnded => "NotEnded",
         MakeFault::Numbers => "Numbers",
         MakeFault::NoMemory => "NoMemory",

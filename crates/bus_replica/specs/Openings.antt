@@ -1,7 +1,7 @@
 -- The replicas of a bus that is new.
 use Rattle.std.specs.Prelude.{◌≡◌, ℕ, ◌+◌, ◌≤◌, List, [], length, slice_get, Option, Some}
 use Rattle.bus_register.specs.declared.limits.TheConstants.{MOST_SENDERS, MOST_FRAME_WORDS}
-use Rattle.bus_register.specs.declared.limits.TheConstants.{MOST_LOG_WORDS}
+use Rattle.bus_register.specs.declared.limits.TheConstants.{MOST_LOG_WORDS, MOST_MESSAGES}
 use Rattle.bus_batch.specs.declared.messages.Item.{Item}
 use Rattle.bus_tenure.specs.declared.pages.Page.{Page}
 use Rattle.bus_machine.specs.Playing.{MayGoOn, MayNotGoOn}
@@ -39,6 +39,7 @@ replica_shape workers words = record {
   rounds = 1;
   rows = 8;
   log_words = words;
+  batch = MOST_MESSAGES;
 }
 
 -- One for each of so many workers, in order, of one bus that is made for these, over such a ring.
@@ -67,10 +68,11 @@ IsOpenFault workers words page opening.Workers = Beyond 1 MOST_SENDERS workers
 IsOpenFault workers words page opening.LogWords =
     Within 1 MOST_SENDERS workers × Beyond MOST_FRAME_WORDS MOST_LOG_WORDS words
 IsOpenFault workers words page opening.NotEnded =
-    AreSizes workers words × MayNotGoOn workers page make.NotEnded
+    AreSizes workers words × MayNotGoOn workers MOST_MESSAGES page make.NotEnded
 IsOpenFault workers words page opening.Numbers =
-    AreSizes workers words × MayNotGoOn workers page make.Numbers
-IsOpenFault workers words page opening.NoMemory = AreSizes workers words × MayGoOn workers page
+    AreSizes workers words × MayNotGoOn workers MOST_MESSAGES page make.Numbers
+IsOpenFault workers words page opening.NoMemory =
+    AreSizes workers words × MayGoOn workers MOST_MESSAGES page
 
 -- The first replicas of a bus of this shape are made, and these senders and receivers are left for
 -- the others, before their first turns.

@@ -40,11 +40,11 @@ impl fmt::Display for Fault {
 pub enum OpenFault {
     /// There are 1 to 64 workers.
     Workers,
-    /// The log has 129 to 65,536 words.
+    /// The log has 513 to 65,536 words.
     LogWords,
     /// The page is of an order that has not ended.
     NotEnded,
-    /// A number of the page leaves no room for those of a ring: it is 2^48 - 2^44 - 16 or more.
+    /// A number of the page leaves no room for those of a ring: it is 2^48 - 2^46 - 64 or more.
     Numbers,
     /// There is no memory for it.
     NoMemory,
@@ -56,7 +56,7 @@ impl fmt::Display for OpenFault {
     fn fmt<W: fmt::Write>(&self, f: &mut fmt::Formatter<W>) -> fmt::Result {
         match self {
             OpenFault::Workers => f.write_str("not 1 to 64 workers"),
-            OpenFault::LogWords => f.write_str("not a log of 129 to 65,536 words"),
+            OpenFault::LogWords => f.write_str("not a log of 513 to 65,536 words"),
             OpenFault::NotEnded => f.write_str("the page is of an order that has not ended"),
             OpenFault::Numbers => f.write_str("the page has a number that leaves no room"),
             OpenFault::NoMemory => f.write_str("no memory"),

@@ -19,8 +19,8 @@ use std::sync::Wait;
 
 impl<S: State> Replica<Long<S>> {
     /// As `submit`, of an operation of at most 880 bytes. It is put whole or not at all: all its
-    /// pieces go into one batch, and the number is that of the last one. A batch has room for 16
-    /// pieces of 55 bytes; it is sent before where they do not fit.
+    /// pieces, at most 16 of 55 bytes, go into one batch, and the number is that of the last one.
+    /// A batch has room for 64; it is sent before where they do not fit.
     pub fn submit_long<W: Wait>(&mut self, wait: &W, op: &[u8]) -> Result<u64, Fault>
         ensures bus { self.new.bus ≡ self.old.bus }
         ensures on { GoesOn self.old.me self.new.me }

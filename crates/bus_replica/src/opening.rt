@@ -6,7 +6,8 @@ ghost use Rattle.bus_batch.specs.Frames.{items_in};
 ghost use Rattle.bus_deliverylog.specs.Orders.{order_held};
 ghost use Rattle.bus_tenure.specs.declared.pages.Page.{Page};
 ghost use Rattle.bus_automaton.specs.ThreeWordBuses.{automaton, process};
-ghost use Rattle.bus_machine.specs.Playing.{RefusedWith};
+ghost use Rattle.bus_automaton.specs.Buses.{ring_plan};
+ghost use Rattle.bus_handles.specs.Handles.{OpenRefused};
 ghost use Rattle.bus_replica.specs.Openings.{AreNewReplicas, AreSizes, IsOpenFault, IsPairing};
 ghost use Rattle.bus_replica.specs.declared.opening.TheConstants.{LOG_WORDS};
 ghost use Rattle.bus_replica.specs.Openings.{replica_shape};
@@ -19,8 +20,8 @@ use crate::states::State;
 use bus_automaton::laws::threads_may_go_by;
 use bus_deliverylog::Order;
 use bus_handles::{
-    MOST_LOG_WORDS, MOST_SENDERS, MakeFault, Page, ReceiverHandle, SenderHandle, Shape, ThreeWord,
-    open_ring,
+    MOST_LOG_WORDS, MOST_MESSAGES, MOST_SENDERS, MakeFault, Page, ReceiverHandle, RingFault,
+    SenderHandle, Shape, ThreeWord, open_ring,
 };
 use bus_register::NoMemory;
 use bus_register::limits::MOST_FRAME_WORDS;
@@ -39,7 +40,7 @@ pub fn open_replicas<S: State>(alloc: Global, workers: u64) -> Result<Vec<Replic
     open_replicas_in(alloc, workers, LOG_WORDS)
 }
 
-/// As `open_replicas`, over a ring of so many words: 129, which the longest batch takes, to 65,536.
+/// As `open_replicas`, over a ring of so many words: 513, which the longest batch takes, to 65,536.
 /// In a short one workers wait more often for the slowest.
 pub fn open_replicas_in<S: State>(
     alloc: Global,
@@ -101,14 +102,14 @@ fn open_behind<S: State>(
 }
 
 /// Why there are no replicas, where this is why there is no bus for them.
-fn fault_of(why: MakeFault) -> OpenFault
+fn fault_of(why: RingFault) -> OpenFault
     ensures { (workers words : ℕ) (page : Option Page) → AreSizes workers words
-        → RefusedWith workers (replica_shape workers words) (Some 8) page why
+        → OpenRefused (ring_plan (replica_shape workers words) None) page why
         → IsOpenFault workers words page result }
 {
     match why {
-        MakeFault::NotEnded => OpenFault::NotEnded,
-        MakeFault::Numbers => OpenFault::Numbers,
+        RingFault::Make(MakeFault::NotEnded) => OpenFault::NotEnded,
+        RingFault::Make(MakeFault::Numbers) => OpenFault::Numbers,
         _ => OpenFault::NoMemory,
     }
 }
@@ -123,6 +124,7 @@ fn shape_of(workers: u64, log_words: u64) -> Shape
         rounds: 1,
         rows: 8,
         log_words,
+        batch: MOST_MESSAGES as u64,
     }
 }
 

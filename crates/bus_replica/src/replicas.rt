@@ -132,7 +132,7 @@ impl<S: State> Replica<S> {
     }
 
     /// Puts an operation of at most 56 bytes into the batch, and gives its number. It is sent with
-    /// the batch: by `flush`, `execute`, `finish`, or where 16 operations wait. What it answers is
+    /// the batch: by `flush`, `execute`, `finish`, or where 64 operations wait. What it answers is
     /// lost.
     pub fn submit<W: Wait>(&mut self, wait: &W, op: &[u8]) -> Result<u64, Fault>
         ensures bus { self.new.bus ≡ self.old.bus }

@@ -20,3 +20,5 @@ pub mod CountLemmas
 pub mod NoteLemmas
 -- What is refused of audits, of runs, and of senders that have not sent all.
 pub mod Refusing
+-- The frames of the log that a run leaves have no more messages than a batch of its bus.
+pub mod FrameLimits

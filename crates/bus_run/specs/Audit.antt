@@ -2,7 +2,8 @@
 use Rattle.std.specs.Prelude.{◌≡◌, ◌≢◌, ℕ, ◌<◌, true, false, List, length, sum, take, All}
 use Rattle.std.specs.Prelude.{slice_index, slice_get, Some}
 use Rattle.std.specs.Int.{w64, to_be_bytes}
-use Rattle.bus_register.specs.declared.limits.TheConstants.{MOST_SENDERS, MOST_LOG_WORDS}
+use Rattle.bus_register.specs.declared.limits.TheConstants.{LOG_MESSAGES, MOST_SENDERS}
+use Rattle.bus_register.specs.declared.limits.TheConstants.{MOST_LOG_WORDS}
 use Rattle.bus_register.specs.declared.registers.SenderNo.{SenderNo}
 use Rattle.bus_batch.specs.declared.messages.Item.{Item}
 use Rattle.bus_batch.specs.Frames.{Order, Spells, items_in, has_gone}
@@ -91,4 +92,5 @@ shape_of_run senders receivers = record {
   rounds = ROUNDS;
   rows = ROWS;
   log_words = MOST_LOG_WORDS;
+  batch = LOG_MESSAGES;
 }

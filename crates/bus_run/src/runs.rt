@@ -20,7 +20,7 @@ use crate::workers::{
     HearAll, Load, ReceiveWorker, SendAll, SendWorker, receive_workers_of, send_workers_of,
 };
 use bus_pageslot::OfBus;
-use bus_register::limits::MOST_LOG_WORDS;
+use bus_register::limits::{LOG_MESSAGES, MOST_LOG_WORDS};
 use bus_world::Shape;
 use std::alloc::Global;
 use std::marker::Brand;
@@ -52,6 +52,7 @@ pub fn run<R: Threads + Wait + Sync, G: Gate + Sync>(
         rounds: ROUNDS,
         rows: ROWS,
         log_words: MOST_LOG_WORDS,
+        batch: LOG_MESSAGES as u64,
     };
     let made = Bus::cyclic(alloc, shape, None)?;
     run_on::<Brand, R, G>(rt, alloc, made, shape, Load { messages, seed }, gate)

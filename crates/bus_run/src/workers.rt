@@ -30,7 +30,7 @@ use crate::spawning::Work;
 use bus_deliverylog::RecvTurn;
 use bus_pageslot::OfBus;
 use bus_receiver::Heard;
-use bus_register::limits::MOST_MESSAGES;
+use bus_register::limits::LOG_MESSAGES;
 use bus_tenure::Turn;
 use bus_waiting::Waiter;
 use rand_chacha::ChaCha8Rng;
@@ -253,12 +253,12 @@ impl<B: OfBus, W: Wait, G: Gate> Work<SendWorker<B>> for SendAll<'_, B, W, G> {
     /// Sends the numbers below `load.messages`, in batches.
     fn work(&self, mut send_worker: SendWorker<B>) -> SendWorker<B> {
         let messages = self.load.messages;
-        for first in (0..messages).step_by(MOST_MESSAGES) {
+        for first in (0..messages).step_by(LOG_MESSAGES) {
             if !self.gate.arrive(send_worker.number()) {
                 send_worker.fault = Some(SenderFault::Gate);
                 return send_worker;
             }
-            let many = messages.saturating_sub(first).min(MOST_MESSAGES as u64);
+            let many = messages.saturating_sub(first).min(LOG_MESSAGES as u64);
             if !send_worker.put_all(many) || !self.send_batch(&mut send_worker) {
                 send_worker.stop();
                 return send_worker;

@@ -227,7 +227,7 @@ impl<Q: Ratifier + Drop> Turns<Q> {
         }
     }
 
-    /// How many words its frame has, the head included: 2 to 129.
+    /// How many words its frame has, the head included: 2 to 513.
     pub fn frame_len(&self) -> u64
         requires { HasSomething self.now.queue }
         ensures len { result ≡ frame_len self.now }

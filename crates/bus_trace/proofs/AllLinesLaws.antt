@@ -93,6 +93,7 @@ plain_make make.Receivers = plain_by (codes "Receivers") refl
 plain_make make.Rounds = plain_by (codes "Rounds") refl
 plain_make make.Rows = plain_by (codes "Rows") refl
 plain_make make.LogWords = plain_by (codes "LogWords") refl
+plain_make make.Batch = plain_by (codes "Batch") refl
 plain_make make.NotEnded = plain_by (codes "NotEnded") refl
 plain_make make.Numbers = plain_by (codes "Numbers") refl
 plain_make make.NoMemory = plain_by (codes "NoMemory") refl

@@ -1,5 +1,5 @@
 -- How many words a bus has such as the first line of a script asks for.
-use Rattle.std.proofs.Common.{◌≡◌, ℕ, ◌+◌, ◌*◌, ◌-◌, ◌≤◌, None, Some, subst, arith}
+use Rattle.std.proofs.Common.{◌≡◌, ℕ, ◌+◌, ◌*◌, ◌-◌, ◌^◌, ◌≤◌, None, Some, subst, arith}
 use Rattle.std.proofs.Math.Nat.{mul-le-mul}
 use Rattle.bus_register.specs.declared.limits.TheConstants.{MOST_SENDERS, MOST_RECEIVERS}
 use Rattle.bus_core.proofs.Reusing.Widths.{few_words}
@@ -13,6 +13,7 @@ use Rattle.bus_replay.specs.Lines.{shape_in, reuse_in}
 use Rattle.bus_world.specs.declared.shapes.Shape.{Shape}
 
 pub record AreFew (shape : Shape) (presences passers : ℕ) : Type 0 where
+  pub some_senders : 1 ≤ shape.senders
   pub senders : shape.senders ≤ MOST_SENDERS
   pub rounds : shape.rounds ≤ 8
   pub rows : shape.rows ≤ 256
@@ -24,6 +25,7 @@ pub few_apart : (first : FirstLine) (shape : Shape) → first ≡ Shaped shape
 few_apart first shape is served =
     let s : IsServed shape None = subst (λ f. IsServed (shape_in f) (reuse_in f)) is served in
     record {
+      some_senders = s.senders.0;
       senders = s.senders.1;
       rounds = s.rounds.1;
       rows = s.rows.1;
@@ -38,6 +40,7 @@ few_again first shape is served =
     let s : IsServed shape (Some shape.rows) =
     subst (λ f. IsServed (shape_in f) (reuse_in f)) is served in
     record {
+      some_senders = s.senders.0;
       senders = s.senders.1;
       rounds = s.rounds.1;
       rows = (let few = s.rows.1 in omega arith);
@@ -53,6 +56,7 @@ few_in_ring first shape seats is served enough =
     subst (λ f. IsServed (shape_in f) (reuse_in f)) is served in
     let few : AreSeats (Ringed shape seats) = subst AreSeats is enough in
     record {
+      some_senders = s.senders.0;
       senders = s.senders.1;
       rounds = s.rounds.1;
       rows = (let few = s.rows.1 in omega arith);
@@ -69,3 +73,10 @@ rows_fit shape presences passers w width few narrow is =
     (let all = few_words shape.senders shape.rounds w few.senders few.rounds narrow in
     omega arith) in
     mul-le-mul few.rows row
+
+-- a binary decision has few words
+pub decision_fits : (rounds w width : ℕ) → rounds ≤ 8 → w ≤ 1024
+    → width ≡ rounds * w + (rounds - 1) * 3 + 1 → width ≤ 2 ^ 32
+decision_fits rounds w width few narrow is =
+    let product : rounds * w ≤ 8 * 1024 = mul-le-mul few narrow in
+    omega arith

@@ -13,7 +13,6 @@ use Rattle.bus_world.specs.declared.events.Answer.{Answer}
 use Rattle.bus_world.specs.declared.shapes.MakeFault.{MakeFault}
 use Rattle.bus_world.specs.declared.shapes.MakeFault.TheVariants as make
 use Rattle.bus_machine.specs.Machine.{Machine}
-use Rattle.bus_machine.specs.Playing.{MakeRefused}
 use Rattle.bus_script.specs.declared.line_numbers.LineNumber.TheVariants.{AtLine, AtEnd}
 use Rattle.bus_script.specs.declared.answers.Outcome.{Outcome}
 use Rattle.bus_script.specs.declared.answers.Outcome.TheVariants.{Done, Refused}
@@ -24,7 +23,7 @@ use Rattle.bus_replay.specs.Lines.{Command, Plays, ForksTo, first_of, command_of
 use Rattle.bus_replay.specs.Lines.{reuse_in, passers_in}
 use Rattle.bus_replay.specs.Text.{make_fault_name}
 use Rattle.bus_replay.specs.Answers.{End, Left, Stopped, Repeats, Asked, Prints}
-use Rattle.bus_replay.specs.Answers.{SeatsRefused, IsOpened}
+use Rattle.bus_replay.specs.Answers.{SeatsRefused, NoBus, IsOpened}
 use Rattle.bus_trace.specs.Words.{TraceSizes, sizes_of}
 use Rattle.bus_trace.specs.Rows.{header, row_text, fork_row}
 use Rattle.bus_trace.specs.Told.{numbered_row}
@@ -96,7 +95,7 @@ module _ {S : Type 0} (X : Election (Elector S)) (P : Protocol S Bool Verdict) w
   Begins line None lines outcome whole =
       IsRefused (refusal_line (AtLine line) (codes "BadLine")) outcome whole
   Begins line (Some first) lines outcome whole =
-      ((why : MakeFault) × MakeRefused (shape_in first) (reuse_in first) why × (why ≢ make.NoMemory)
+      ((why : MakeFault) × NoBus first why × (why ≢ make.NoMemory)
       × IsRefused (refusal_line (AtLine line) (make_fault_name why)) outcome whole)
       ⊎ ((SeatsRefused first
       × IsRefused (refusal_line (AtLine line) (codes "Seats")) outcome whole)

@@ -11,12 +11,12 @@ pub const INTERPRETER: &str = r#"'use strict';
 // ring that nobody has; all others are plain numbers.
 const PASSED_ALL = BigInt('18446744073709551615');
 
-function newBus(kind, [senders, receivers, rounds, rows, log, seats = receivers]) {
+function newBus(kind, [senders, receivers, rounds, rows, log, seats = receivers, most = 16]) {
     const isCyclic = kind !== 'shape';
     let bits = 0;
     while (2 ** bits < senders) bits += 1;
     return {
-        isCyclic, isRing: kind === 'ring', rounds, rows, log, bits,
+        isCyclic, isRing: kind === 'ring', rounds, rows, log, most, bits,
         end: isCyclic ? 2 ** 40 : rows, words: new Map(freePlaces(receivers, seats)),
         page: {words: 0, hasEnded: false, floor: 0},
         senders: Array.from({length: senders}, (none, number) => newSender(number)),
@@ -495,14 +495,15 @@ function takeStep(bus, process, kind, random) {
     return row;
 }
 
-// ---- Calls. Each gives its answer, or the name of its refusal with a capital.
+// ---- Calls. Each gives its answer, or the name of its refusal with a capital. A batch of the bus
+// has so many messages at most.
 const CALLS = {
-    put(s, digits) {
+    put(s, digits, most) {
         const message = digits === '-' ? '' : digits;
         if (s.mark || s.isClosed) return 'Closed';
         if (s.tenure !== null) return 'Busy';
         if (message.length > 2 * 56) return 'TooLong';
-        if (s.batch.length === 16) return 'BatchFull';
+        if (s.batch.length === most) return 'BatchFull';
         s.batch.push(message);
         return 'number ' + (s.first + s.batch.length - 1);
     },
@@ -543,13 +544,14 @@ const FORMS = {
     fork: [isNumber, isNumber],
     shape: [isNumber, isNumber, isNumber, isNumber, isNumber],
     cycle: [isNumber, isNumber, isNumber, isNumber, isNumber],
-    ring: [isNumber, isNumber, isNumber, isNumber, isNumber, isNumber],
+    ring: [isNumber, isNumber, isNumber, isNumber, isNumber, isNumber, isNumber],
 };
 
-// A ring may leave out its last number.
+// A ring may leave out its last number, or its last two.
 function hasForm(word, rest) {
     const form = Object.hasOwn(FORMS, word) && FORMS[word];
-    const isFull = form && (rest.length === form.length || (word === 'ring' && rest.length === 5));
+    const least = form && (word === 'ring' ? 5 : form.length);
+    const isFull = form && rest.length >= least && rest.length <= form.length;
     return isFull && rest.every((one, place) => form[place](one));
 }
 
@@ -558,7 +560,7 @@ function sizeRefused(isCyclic, sizes) {
     const limits = [
         ['Senders', 1, 64], ['Receivers', 1, 64], ['Rounds', 1, 8],
         isCyclic ? ['Rows', 2, 8] : ['Rows', 1, 256], ['LogWords', 16, 65536],
-        ['Seats', sizes[1], 64],
+        ['Seats', sizes[1], 64], ['Batch', 1, 64],
     ];
     const bad = limits.find(([, least, most], at) => sizes[at] < least || sizes[at] > most);
     return bad ? bad[0] : '';
@@ -602,7 +604,7 @@ function playEvent(game, word, rest) {
 }
 
 function playCall(game, s, word, message) {
-    const answer = CALLS[word](s, message);
+    const answer = CALLS[word](s, message, game.bus.most);
     if (/^[A-Z]/.test(answer)) return answer;
     const stores = word === 'gone' && game.bus.isRing;
     if (stores) addRow(game, s, takeStep(game.bus, s, 'StorePassed', 0));

@@ -108,6 +108,8 @@ pub const GAME: &str = r#"<section id="game" aria-labelledby="game-title">
 <label>log words <input id="size-4" class="small" type="number" min="16" max="65536"
 value="64"></label>
 <label>seats of a ring <input id="size-5" class="small" type="number" min="1" max="64"></label>
+<label>messages of a batch of a ring
+<input id="size-6" class="small" type="number" min="1" max="64"></label>
 <button id="new">Begin</button>
 </div>
 </details>

@@ -25,7 +25,7 @@ const FORBIDS = {
     Pending: 'Messages wait at it. Whoever has left has all in the order that it put (whole), ' +
         'and the frame of the end has no message (framed).',
     TooLong: 'A message has at most 56 bytes.',
-    BatchFull: 'A batch has at most 16 messages, which are one frame.',
+    BatchFull: 'A batch has at most as many messages as its bus says, which are one frame.',
     NoSuchSender: 'There is no such sender.',
     NoSuchReceiver: 'There is no such receiver.',
     Senders: 'A bus has 1 to 64 senders.',
@@ -34,6 +34,7 @@ const FORBIDS = {
     Rows: 'A bus has 1 to 256 rows, or 2 to 8 that are used again.',
     LogWords: 'A log has 16 to 65,536 words.',
     Seats: 'A ring has no fewer seats than receivers, and at most 64.',
+    Batch: 'A batch of a ring has 1 to 64 messages.',
     BadLine: 'That is no line of a script; docs/FORMATS.md has their forms.',
 };
 
@@ -342,7 +343,9 @@ function callOf(name, of, message) {
 function newBusOf() {
     const kind = at('rows-kind').value;
     const sizes = [0, 1, 2, 3, 4].map((place) => at('size-' + place).value);
-    if (kind === 'ring' && at('size-5').value) sizes.push(at('size-5').value);
+    const [seats, most] = [at('size-5').value, at('size-6').value];
+    if (kind === 'ring' && (seats || most)) sizes.push(seats || sizes[1]);
+    if (kind === 'ring' && most) sizes.push(most);
     const line = kind + ' ' + sizes.join(' ');
     const {refusal} = gameOf([line]);
     if (refusal) {

@@ -43,7 +43,7 @@ function readShape(lines) {
     const first = lines.find((line) => line !== '' && !line.startsWith('#')) || '';
     const part = first.split(' ');
     const [cyclic, ring] = [part[0] !== 'shape', part[0] === 'ring'];
-    if (part.length !== 6 && !(ring && part.length === 7)) return null;
+    if (part.length < 6 || part.length > (ring ? 8 : 6)) return null;
     if (!['shape', 'cycle', 'ring'].includes(part[0])) return null;
     const [senders, receivers, rounds, rows, log, seats = receivers] = part.slice(1).map(Number);
     const bits = Math.ceil(Math.log2(senders));

@@ -66,7 +66,7 @@ filter_short p [] = omega arith
 filter_short p (x ∷ xs) = shorter (p x) x (filter p xs) (length xs) (filter_short p xs)
 
 sent_short : (senders s : ℕ) (frames : List Frame) → AreFrames senders frames
-    → 17 * sent_count s frames ≤ 16 * length (log_words frames)
+    → 65 * sent_count s frames ≤ 64 * length (log_words frames)
 sent_short senders s frames lawful = grind (arith, common_steps, filter_short, items_few)
 
 -- and no more than a batch in each tenure

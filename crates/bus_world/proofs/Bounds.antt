@@ -28,13 +28,13 @@ items_many owner [] = omega arith
 items_many owner (m ∷ ms) = let a = items_many owner ms in omega arith
 
 body_few : (owner : SenderNo) (b : Body) → IsBody b
-    → 17 * length (body_items owner b) ≤ 16 * (1 + length (body_words b))
+    → 65 * length (body_items owner b) ≤ 64 * (1 + length (body_words b))
 body_few owner (Messages ms) is =
     let a = items_short owner ms in let b = items_many owner ms in let few = is.1 in omega arith
 body_few owner (Marked m) is = omega arith
 
 few_from : (senders least : ℕ) (frames : List Frame) → AreFramesFrom senders least frames
-    → 17 * length (flat_map items_of frames) ≤ 16 * length (log_words frames)
+    → 65 * length (flat_map items_of frames) ≤ 64 * length (log_words frames)
 few_from senders least [] lawful = omega arith
 few_from senders least (f ∷ frames) lawful =
     let a = length-append (items_of f) (flat_map items_of frames) in
@@ -43,8 +43,8 @@ few_from senders least (f ∷ frames) lawful =
     let e = few_from senders (f.tenure + 1) frames lawful.3 in omega arith
 
 pub items_few : (senders : ℕ) (frames : List Frame) → AreFrames senders frames
-    → 17 * length (items_in (order_of frames).entries) ≤ 16 * length (log_words frames)
-items_few senders frames lawful = subst (λ z. 17 * length z ≤ 16 * length (log_words frames))
+    → 65 * length (items_in (order_of frames).entries) ≤ 64 * length (log_words frames)
+items_few senders frames lawful = subst (λ z. 65 * length z ≤ 64 * length (log_words frames))
     (sym (entries_are_items frames)) (few_from senders 0 frames lawful)
 
 -- ---- by tenures
@@ -66,7 +66,7 @@ items_from batch (f ∷ frames) few =
     omega arith
 
 words_from : (senders least : ℕ) (frames : List Frame) → AreFramesFrom senders least frames
-    → length (log_words frames) ≤ 129 * length frames
+    → length (log_words frames) ≤ 513 * length frames
 words_from senders least [] lawful = omega arith
 words_from senders least (f ∷ frames) lawful =
     let a = length-append (frame_words f) (log_words frames) in

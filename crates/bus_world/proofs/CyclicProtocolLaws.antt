@@ -531,7 +531,14 @@ module _ {E : Type 0} (X : Election E) (P : Protocol E (Unit {0}) ℕ)
               above_it (row_of z t) (register o - row_at x t) x.width
               (let l = b.1 in let m = b.2 in omega arith);
           takers = record { took = takers.took; only = takers.only };
-          spelled = grind (arith, common_steps);
+          spelled = record {
+            frames = k.frames;
+            lawful = lawful;
+            words_are = h.log_is;
+            order_is = refl;
+            owners_are = refl;
+          };
+          few = h.sending.log.few;
           ring = grind (arith, common_steps, length-logged, length);
           floor_home = h.stored.floor_home;
           floor_held = h.stored.floor_held;

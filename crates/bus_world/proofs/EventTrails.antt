@@ -601,7 +601,19 @@ module _ (bases : List ℕ) {E : Type 0} (X : Election E) (P : Protocol E (Unit 
     }
 
     pub by_frames : IsPromisedBy bases x b T (order_of frames) (map tenure_and_owner frames)
-    by_frames = grind (arith, common_steps, page)
+    by_frames = record {
+      spelled = record {
+        frames = frames;
+        lawful = k.lawful.keeps.sending.log.lawful;
+        words_are = k.log_is;
+        order_is = refl;
+        owners_are = refl;
+      };
+      few = k.lawful.keeps.sending.log.few;
+      shows = k.lawful.keeps.sending.log.words_are ∙ k.log_is;
+      takers = record { took = k.tied.takers.took; only = k.tied.takers.only };
+      promises = page;
+    }
 
   -- whatever trails lead to a bus, the promise holds of them
   pub reached_kept : (b : Bus E) (T : Trails) → Reached X bases x b T → Kept b T

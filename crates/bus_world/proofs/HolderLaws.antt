@@ -9,7 +9,7 @@ use Rattle.std.proofs.Math.ListN.{length-set}
 use Rattle.std.proofs.Math.Seq.{take-length}
 use Rattle.std.proofs.lemmas.Option.{same_Some}
 use Rattle.std.proofs.lemmas.Grind.{common_steps}
-use Rattle.bus_register.specs.declared.limits.TheConstants.{MOST_SENDERS}
+use Rattle.bus_register.specs.declared.limits.TheConstants.{MOST_SENDERS, MOST_MESSAGES}
 use Rattle.bus_register.specs.declared.registers.SenderNo.{SenderNo}
 use Rattle.bus_register.specs.Tables.{of_some, Beside}
 use Rattle.bus_register.specs.Protocol.{Protocol, Laws}
@@ -231,7 +231,7 @@ module _ {E : Type 0} (X : Election E) (P : Protocol E (Unit {0}) ℕ)
           still_open = sym written.1.page_knows.ended ∙ is_open
 
           frame_lawful : IsFrame x.senders f
-          frame_lawful = is_frame 16 c.queue x.senders t own_part.queue.limit_few
+          frame_lawful = is_frame MOST_MESSAGES c.queue x.senders t own_part.queue.limit_few
               written.0.something own_part.queue
               (let a = sender_is in let b = own_part.below in omega arith)
               (let a = in_rows in let b = ok.rows in omega arith)

@@ -12,6 +12,8 @@ make_fault_text make.Receivers = codes "not 1 to 64 receivers"
 make_fault_text make.Rounds = codes "not 1 to 8 rounds"
 make_fault_text make.Rows = codes "not 1 to 256 rows, or 2 to 8 used again"
 make_fault_text make.LogWords = codes "not 16 to 65536 log words"
+make_fault_text make.Batch =
+    codes "not 1 to 64 messages in a batch, or not 16 in a log that is no ring"
 make_fault_text make.NotEnded = codes "earlier sitting not ended"
 make_fault_text make.Numbers = codes "numbers used up"
 make_fault_text make.NoMemory = codes "no memory"

@@ -20,6 +20,8 @@ impl fmt::Display for MakeFault {
             MakeFault::Rounds => "not 1 to 8 rounds",
             MakeFault::Rows => "not 1 to 256 rows, or 2 to 8 used again",
             MakeFault::LogWords => "not 16 to 65536 log words",
+            MakeFault::Batch =>
+                "not 1 to 64 messages in a batch, or not 16 in a log that is no ring",
             MakeFault::NotEnded => "earlier sitting not ended",
             MakeFault::Numbers => "numbers used up",
             MakeFault::NoMemory => "no memory",

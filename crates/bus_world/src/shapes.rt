@@ -18,6 +18,8 @@ pub struct Shape {
     pub rows: u64,
     /// 16 to 65,536.
     pub log_words: u64,
+    /// The most messages of one batch: 1 to 64 where the log is a ring, and else 16.
+    pub batch: u64,
 }
 
 /// Why no bus is made: a size out of its range, a page that no sitting can go on with, or no
@@ -29,10 +31,12 @@ pub enum MakeFault {
     Rounds,
     Rows,
     LogWords,
+    /// A batch has not 1 to 64 messages, or where the log is no ring not 16.
+    Batch,
     /// The sitting that a bus is to go on with has not ended.
     NotEnded,
-    /// A sender's next number is 2^48 - 65,536 or more, or where words of the log are used again
-    /// 2^48 - 2^44 - 16 or more.
+    /// A sender's next number is 2^48 - 65,536 or more, or where words of the log are used again,
+    /// and a batch has B messages, 2^48 - B * (2^40 + 1) or more.
     Numbers,
     /// Memory was refused.
     NoMemory,

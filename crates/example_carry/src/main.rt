@@ -11,6 +11,7 @@ const SHAPE: Shape = Shape {
     rounds: 2,
     rows: 4,
     log_words: 64,
+    batch: 16,
 };
 
 fn main(rt: HostRuntime) -> anyhow::Result<()> {

@@ -11,6 +11,7 @@ fn main(rt: HostRuntime) -> anyhow::Result<()> {
         rounds: 2,
         rows: 2,
         log_words: 4096,
+        batch: 64,
     };
     let (senders, receivers) = open_ring::<ThreeWord>(rt.alloc(), shape, None)?;
     for mut sender in senders {

@@ -2,6 +2,7 @@
 //! clauses, so a test is a list of names and carries no contract.
 
 use bus_adoptcommit::ThreeWord;
+use bus_batch::PutFault;
 use bus_deliverylog::{Order, RecvTurn};
 use bus_machine::World;
 use bus_register::SenderNo;
@@ -10,7 +11,7 @@ use bus_world::{Answer, Event, PlayFault, Shape, StepFault};
 use std::fmt::Debug;
 use std::process::Abort;
 
-/// A bus of one round for each bit.
+/// A bus of one round for each bit, whose batches have at most 16 messages.
 pub fn shape(senders: u64, receivers: u64, rows: u64, log_words: u64) -> Shape {
     Shape {
         senders,
@@ -18,6 +19,7 @@ pub fn shape(senders: u64, receivers: u64, rows: u64, log_words: u64) -> Shape {
         rounds: 1,
         rows,
         log_words,
+        batch: 16,
     }
 }
 
@@ -113,6 +115,15 @@ impl Game {
         want: Result<u64, StepFault>,
     ) {
         same(rt, &self.put(SenderNo(sender), bytes), &want);
+    }
+
+    /// Wants that messages like this one are taken, with the numbers from 0 on, so many, and then
+    /// no more.
+    pub fn fills(&mut self, rt: &impl Abort, bytes: &[u8], many: u64) {
+        for number in 0..many {
+            self.puts(rt, 0, bytes, Ok(number));
+        }
+        self.puts(rt, 0, bytes, Err(StepFault::Put(PutFault::BatchFull)));
     }
 
     /// Wants that a close is answered so.

@@ -7,7 +7,7 @@ use bus_deliverylog::RecvTurn;
 use bus_machine::World;
 use bus_register::SenderNo;
 use bus_tenure::Turn;
-use bus_world::{Event, MakeFault, StepFault};
+use bus_world::{Event, MakeFault, Shape, StepFault};
 use std::process::Abort;
 
 /// A ring of so many senders and receivers, with two rows.
@@ -166,4 +166,78 @@ fn ring_limits(rt: HostRuntime) {
     same(&rt, &few, &Some(MakeFault::Rows));
     let small = World::<ThreeWord>::ring(rt.alloc(), shape(1, 1, 2, 15), None).err();
     same(&rt, &small, &Some(MakeFault::LogWords));
+}
+
+/// A ring of one sender and one receiver, of so many log words, with so many messages in a batch.
+fn batched<R: Abort + AllocGlobal>(rt: &R, log_words: u64, batch: u64) -> Game {
+    let one = shape(1, 1, 2, log_words);
+    Game::ring(rt, Shape { batch, ..one })
+}
+
+/// How many items receiver 0 is given until it finds nothing.
+fn heard(rt: &impl Abort, game: &mut Game) -> u64 {
+    let mut items = 0u64;
+    for _ in 0..999 {
+        match game.recv(rt) {
+            RecvTurn::Item(_) => items = items.wrapping_add(1),
+            RecvTurn::Empty => return items,
+            _ => {}
+        }
+    }
+    items
+}
+
+/// Wants that a ring sends as many such messages in one frame as a batch may have, and no more, and
+/// that its receiver is given all of them.
+fn sends_all<R: Abort + AllocGlobal>(rt: &R, game: &mut Game, bytes: &[u8], batch: u64) {
+    game.fills(rt, bytes, batch);
+    game.comes_to(rt, 0, Turn::Own { tenure: 0 });
+    let last = batch.wrapping_sub(1);
+    let sent = Turn::Delivered {
+        tenure: 0,
+        first: 0,
+        last,
+    };
+    game.goes(rt, 0, 999, sent);
+    stands(rt, game, 0, batch as usize);
+    same(rt, &heard(rt, game), &batch);
+}
+
+#[test]
+fn batches_of_all_sizes(rt: HostRuntime) {
+    sends_all(&rt, &mut batched(&rt, 16, 1), &[97; 56], 1);
+    sends_all(&rt, &mut batched(&rt, 18, 17), &[], 17);
+    sends_all(&rt, &mut batched(&rt, 512, 64), &[98; 48], 64);
+    sends_all(&rt, &mut batched(&rt, 513, 64), &[99; 56], 64);
+}
+
+#[test]
+fn a_batch_longer_than_its_ring(rt: HostRuntime) {
+    let mut game = batched(&rt, 512, 64);
+    game.fills(&rt, &[97; 56], 64);
+    finds_full(&rt, &mut game, 0);
+    finds_full(&rt, &mut game, 1);
+    stands(&rt, &game, 0, 0);
+}
+
+#[test]
+fn batch_limits(rt: HostRuntime) {
+    for batch in [0, 65, u64::MAX] {
+        let shape = Shape {
+            batch,
+            ..shape(1, 1, 2, 16)
+        };
+        let ring = World::<ThreeWord>::ring(rt.alloc(), shape, None).err();
+        same(&rt, &ring, &Some(MakeFault::Batch));
+    }
+    for batch in [0, 1, 15, 17, 64] {
+        let shape = Shape {
+            batch,
+            ..shape(1, 1, 2, 16)
+        };
+        let plain = World::<ThreeWord>::new(rt.alloc(), shape).err();
+        same(&rt, &plain, &Some(MakeFault::Batch));
+        let again = World::<ThreeWord>::cyclic(rt.alloc(), shape, None).err();
+        same(&rt, &again, &Some(MakeFault::Batch));
+    }
 }

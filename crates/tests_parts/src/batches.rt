@@ -94,7 +94,7 @@ fn spells(rt: &impl Abort, batch: &Batch, words: &[u64]) {
 
 /// The words of the frame of these messages of sender 0 in tenure 0 begin with these.
 fn are_spelled(rt: &impl Abort, messages: &[&[u8]], words: &[u64]) {
-    let mut batch = Batch::new(SenderNo(0), 0, 16);
+    let mut batch = Batch::new(SenderNo(0), 0, 64);
     for (number, bytes) in messages.iter().enumerate() {
         puts(rt, &mut batch, bytes, Ok(number as u64));
     }
@@ -109,11 +109,15 @@ fn words_of_frames(rt: HostRuntime) {
         &[b"".as_slice()],
         &[0x4000_0100_0000_0000, 0x8000_0000_0000_0000],
     );
-    let largest = [[0u8; 56].as_slice(); 16];
     are_spelled(
         &rt,
-        &largest,
+        &[[0u8; 56].as_slice(); 16],
         &[0x4000_8000_0000_0000, 0x8E00_0000_0000_0000],
+    );
+    are_spelled(
+        &rt,
+        &[[0u8; 56].as_slice(); 64],
+        &[0x4002_0000_0000_0000, 0x8E00_0000_0000_0000],
     );
     let like_a_head = [0x40u8, 0, 1, 0, 0, 0, 0, 0];
     are_spelled(

@@ -8,7 +8,7 @@ use std::process::Abort;
 
 /// Lines are refused with this text, as a log of two senders.
 fn refuses<R: Abort + AllocGlobal>(rt: &R, input: &[u8], text: &str) {
-    let answer = read_log_text(rt.alloc(), input, 2).expect(rt, "memory");
+    let answer = read_log_text(rt.alloc(), input, 2, 16).expect(rt, "memory");
     same(rt, &answer.outcome, &Outcome::Refused);
     same(rt, &answer.text.as_str(), &text);
 }

@@ -1,11 +1,12 @@
 //! Short lists of words beside a plain reading, and the two ends of a log over words of its own.
 //! Worked logs with their texts stand in `examples/rows/`.
 
-ghost use Rattle.std.specs.Prelude.{◌≡◌, ◌+◌, ◌<◌, ◌^◌, false};
+ghost use Rattle.std.specs.Prelude.{◌≡◌, ◌+◌, ◌<◌, ◌≤◌, ◌^◌, false};
 
 use crate::steps::same;
 use bus_batch::{Batch, Item, Message};
 use bus_deliverylog::{LogFault, Order, Reader, RecvTurn, Writer, read_log};
+use bus_logtext::log_text;
 use bus_register::{Kind, Machine, Op, Reg, SenderNo};
 use std::alloc::Global;
 use std::process::Abort;
@@ -32,6 +33,8 @@ fn an_order_is_put_together(rt: HostRuntime) {
 /// A plain reading of the words of two senders, by bits and counts alone.
 #[derive(Drop)]
 struct Plain {
+    /// Messages that a frame may have.
+    most: u64,
     /// Words of the frame that are to come.
     left: u64,
     /// Messages that the frame may have yet.
@@ -72,13 +75,13 @@ impl Plain {
         let tenure = word & 0xFF_FFFF_FFFF;
         self.owner = owner;
         self.left = count;
-        self.room = 16;
+        self.room = self.most;
         let least = self.least;
         self.least = tenure.saturating_add(1);
         word >> 62 == 1
             && owner <= 1
             && count != 0
-            && count <= 128
+            && count <= self.most.saturating_mul(8)
             && tenure >= least
             && !self.gone[(owner % 2) as usize]
     }
@@ -92,7 +95,7 @@ impl Plain {
     fn takes_mark(&mut self, word: u64) -> bool {
         self.ended = word == 0xC000_0000_0000_0000;
         self.gone[(self.owner % 2) as usize] = !self.ended;
-        word <= 0xC000_0000_0000_0001 && self.left == 0 && self.room == 16
+        word <= 0xC000_0000_0000_0001 && self.left == 0 && self.room == self.most
     }
 
     fn takes_message(&mut self, word: u64) -> bool {
@@ -110,9 +113,10 @@ impl Plain {
 }
 
 /// How a plain reading of the words of two senders ends: with the fault, or none where the words
-/// are a log.
-fn plain_fault(words: &[u64]) -> Option<LogFault> {
+/// are a log whose frames have so many messages at most.
+fn plain_fault(words: &[u64], most: u64) -> Option<LogFault> {
     let mut plain = Plain {
+        most,
         left: 0,
         room: 0,
         bytes: 0,
@@ -140,13 +144,24 @@ fn fault(alloc: Global, words: &[u64]) -> Option<LogFault> {
     read_log(alloc, words, 2).err()
 }
 
+/// How they are told, where a frame has so many messages at most.
+fn text_fault(alloc: Global, words: &[u64], most: u64) -> Option<LogFault>
+    requires { (1 ≤ most) × (most ≤ 64) }
+{
+    log_text(alloc, words, 2, most).err()
+}
+
 /// Sees that the words are read as a plain reading reads them.
 fn agrees(rt: &impl Abort, alloc: Global, words: &[u64]) {
-    assert_eq!(rt; fault(alloc, words), plain_fault(words), "{words:?}");
+    assert_eq!(rt; fault(alloc, words), plain_fault(words, 64), "{words:?}");
+    for most in [1, 2, 16, 64] {
+        let told = text_fault(alloc, words, most);
+        assert_eq!(rt; told, plain_fault(words, most), "{words:?}");
+    }
 }
 
 /// Words that each stand at an edge of the format.
-const EDGES: [u64; 18] = [
+const EDGES: [u64; 24] = [
     0,
     0x4000_0000_0000_0000,
     0x4000_0100_0000_0000,
@@ -154,8 +169,14 @@ const EDGES: [u64; 18] = [
     0x4000_0200_0000_0000,
     0x4040_0100_0000_0001,
     0x4000_0300_0000_0000,
+    0x4000_0800_0000_0000,
+    0x4000_0900_0000_0000,
+    0x4000_1000_0000_0000,
+    0x4000_1100_0000_0000,
     0x4000_8000_0000_0000,
     0x4000_8100_0000_0000,
+    0x4002_0000_0000_0000,
+    0x4002_0100_0000_0000,
     0x4080_0100_0000_0000,
     0x8000_0000_0000_0000,
     0x8040_0000_0000_0000,

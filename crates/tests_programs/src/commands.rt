@@ -128,6 +128,11 @@ fn names_task<R: Abort + AllocGlobal>(rt: &R, rest: &[&str], task: Task) {
     }
 }
 
+/// Wants that these words name `log` with these numbers.
+fn names_log<R: Abort + AllocGlobal>(rt: &R, rest: &[&str], senders: u64, batch: u64) {
+    names_task(rt, rest, Task::Log { senders, batch });
+}
+
 #[test]
 fn tasks(rt: HostRuntime) {
     let run = Request {
@@ -145,8 +150,9 @@ fn tasks(rt: HostRuntime) {
     names_task(&rt, &["run"], Task::Run(run));
     names_task(&rt, &["run", "--log"], Task::RunLog(run));
     names_task(&rt, &["run", "--journal"], Task::RunJournal(run));
-    names_task(&rt, &["log"], Task::Log { senders: 3 });
-    names_task(&rt, &["log", "--senders", "2"], Task::Log { senders: 2 });
+    names_log(&rt, &["log"], 3, 16);
+    names_log(&rt, &["log", "--senders", "2"], 2, 16);
+    names_log(&rt, &["log", "--batch", "64"], 3, 64);
     names_task(&rt, &["journal"], Task::Journal);
     names_task(&rt, &["journal", "--repair"], Task::Repair);
 }
@@ -175,8 +181,8 @@ fn ends_of_ranges(rt: HostRuntime) {
     let seed = "--seed=18446744073709551615";
     let most = ["--senders=8", "--receivers=8", "--messages=400", seed];
     asks_for(&rt, most, [8, 8, 400, u64::MAX]);
-    names_task(&rt, &["log", "--senders=1"], Task::Log { senders: 1 });
-    names_task(&rt, &["log", "--senders=64"], Task::Log { senders: 64 });
+    names_log(&rt, &["log", "--senders=1", "--batch=1"], 1, 1);
+    names_log(&rt, &["log", "--senders=64", "--batch=64"], 64, 64);
 }
 
 /// Wants that the words behind the program's name are refused so.
@@ -221,4 +227,11 @@ fn command_lines(rt: HostRuntime) {
     refuses_words(&rt, &["ratify", "-h"], ErrorKind::DisplayHelp);
     refuses_words(&rt, &["--version"], ErrorKind::DisplayVersion);
     refuses_words(&rt, &["run", "--version"], ErrorKind::UnknownArgument);
+}
+
+#[test]
+fn batches_of_a_log(rt: HostRuntime) {
+    for rest in [["log", "--batch", "0"], ["log", "--batch", "65"]] {
+        refuses_words(&rt, &rest, ErrorKind::ValueValidation);
+    }
 }

@@ -138,17 +138,49 @@ impl<'b> BusReceiver<'b> {
         let bus = self.bus;
         self.receiver.turn(bus)
     }
+
+    /// Leaves for good.
+    fn leave(self) {
+        let BusReceiver { bus, receiver } = self;
+        let _ = receiver.leave(bus);
+    }
 }
 
-/// The seats of a bus and a machine of one shape, and how often tenures were lost.
+/// What turns of senders were answered.
+#[derive(Clone, Copy, Default, Drop)]
+pub struct Answered {
+    /// How often tenures were lost.
+    pub lost: u64,
+    /// How often a batch had no room.
+    pub full: u64,
+    /// The most messages that were delivered at once.
+    pub most: u64,
+}
+
+impl Answered {
+    /// Takes an answer in.
+    fn note(&mut self, turn: &Turn) {
+        match turn {
+            Turn::Lost { .. } => self.lost = self.lost.saturating_add(1),
+            Turn::Full => self.full = self.full.saturating_add(1),
+            Turn::Delivered { first, last, .. } => {
+                let many = last.saturating_sub(*first).saturating_add(1);
+                self.most = self.most.max(many);
+            }
+            _ => {}
+        }
+    }
+}
+
+/// The seats of a bus and a machine of one shape, and what turns were answered.
 #[derive(Drop)]
 pub struct Both<'b> {
     /// None where a sender has stopped: it is dropped.
     senders: Vec<Option<BusSender<'b>>>,
-    /// None where a receiver has left for good: it is dropped.
+    /// None where a receiver has left for good.
     receivers: Vec<Option<BusReceiver<'b>>>,
     pub world: World<ThreeWord>,
-    lost: u64,
+    answered: Answered,
 }
 
 impl<'b> Both<'b> {
@@ -159,7 +191,7 @@ impl<'b> Both<'b> {
             senders: Vec::new(rt.alloc()),
             receivers: Vec::new(rt.alloc()),
             world: machine(rt, rt.alloc(), first),
-            lost: 0,
+            answered: Answered::default(),
         };
         for sender in senders {
             both.senders.push(Some(sender)).expect(rt, "memory");
@@ -170,10 +202,14 @@ impl<'b> Both<'b> {
         both
     }
 
-    /// The machine, and how often tenures were lost. The seats are dropped.
-    pub fn into_world(self) -> (World<ThreeWord>, u64) {
-        let Both { world, lost, .. } = self;
-        (world, lost)
+    /// The machine, and what turns were answered. The seats are dropped.
+    pub fn into_world(self) -> (World<ThreeWord>, Answered) {
+        let Both {
+            world,
+            answered,
+            ..
+        } = self;
+        (world, answered)
     }
 
     /// How many senders there are.
@@ -215,11 +251,10 @@ impl<'b> Both<'b> {
         if let Event::Put { sender, .. } | Event::Turn { sender, .. } = event {
             self.see(rt, *sender);
         }
+        if let Ok(Answer::Turn(turn)) = &got {
+            self.answered.note(turn);
+        }
         match got {
-            Ok(Answer::Turn(Turn::Lost { .. })) => {
-                self.lost = self.lost.saturating_add(1);
-                false
-            }
             Ok(answer) => goes_on(&answer),
             Err(_) => false,
         }
@@ -261,15 +296,16 @@ fn answer_of(found: &mut Option<BusSender<'_>>, event: &Event) -> Result<Answer,
 
 /// What a receiver answers, which is none once it has left.
 fn heard_by(found: &mut Option<BusReceiver<'_>>, event: &Event) -> Result<Answer, StepFault> {
-    let Some(receiver) = found else {
-        return Err(StepFault::Gone);
-    };
-    match event {
-        Event::Recv(_) => Ok(Answer::Recv(receiver.turn())),
-        _ => {
-            *found = None;
-            Ok(Answer::Gone)
-        }
+    if matches!(event, Event::Gone(_)) {
+        let Some(receiver) = found.take() else {
+            return Err(StepFault::Gone);
+        };
+        receiver.leave();
+        return Ok(Answer::Gone);
+    }
+    match found {
+        Some(receiver) => Ok(Answer::Recv(receiver.turn())),
+        None => Err(StepFault::Gone),
     }
 }
 

@@ -22,6 +22,7 @@ const SMALL: Shape = Shape {
     rounds: 1,
     rows: 2,
     log_words: 200,
+    batch: 16,
 };
 
 type Few = Bus<ThreeWord>;

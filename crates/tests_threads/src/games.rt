@@ -61,6 +61,17 @@ pub fn play_after<R: Threads + Wait + Abort + AllocGlobal + Sync, G: Game>(
     play_on_made(rt, made_after(rt, rt.alloc(), shape, page), game)
 }
 
+/// Plays on a ring of this shape, all of whose receivers play. So none is left that could end it.
+pub fn play_ring<R: Threads + Wait + Abort + AllocGlobal + Sync, G: Game>(
+    rt: &R,
+    shape: Shape,
+    game: &mut G,
+) {
+    let (bus, senders, taps) = made_ring(rt, rt.alloc(), shape);
+    let seats = seated(rt, &bus, senders, taps);
+    game.play(rt, seats);
+}
+
 /// Plays on this bus, which its last receiver ends.
 fn play_on_made<R: Threads + Wait + Abort + AllocGlobal + Sync, G: Game>(
     rt: &R,
@@ -118,6 +129,18 @@ pub fn made(
         }
         FirstLine::Ring { .. } => panic!(rt; "no row of these is of a ring"),
     }
+}
+
+/// A ring of this shape.
+fn made_ring(
+    rt: &impl Abort,
+    alloc: Global,
+    shape: Shape,
+) -> (Bus<ThreeWord>, Vec<Sender<ThreeWord>>, Vec<Tap<ThreeWord>>)
+    ensures senders { All (λ s. table_of s ≡ result.0.table) result.1.items }
+    ensures taps { All (λ t. t.table_id ≡ result.0.table) result.2.items }
+{
+    Bus::ring(alloc, shape, None).expect(rt, "memory")
 }
 
 /// The bus of the sitting after this page, with one receiver more.

@@ -16,7 +16,11 @@ const SMALL: Shape = Shape {
     rounds: 1,
     rows: 2,
     log_words: 64,
+    batch: 16,
 };
+
+/// The same as a ring: the longest batch fits its log.
+const RING: Shape = Shape { batch: 7, ..SMALL };
 
 type Few = ReceiverHandle<ThreeWord>;
 
@@ -51,7 +55,7 @@ fn hears<R: Abort + Wait>(rt: &R, receiver: &mut Few, number: u64) {
 /// A ring with its sender and its first receiver. The two others were spare: one has left, and one
 /// is dropped.
 fn ring_with_room(rt: &impl Abort, alloc: Global) -> (One, Few) {
-    let (mut senders, mut receivers) = open_ring(alloc, SMALL, None).expect(rt, "a ring");
+    let (mut senders, mut receivers) = open_ring(alloc, RING, None).expect(rt, "a ring");
     let _ = receivers.pop().expect(rt, "a receiver").leave();
     drop(receivers.pop());
     let first = receivers.pop().expect(rt, "a receiver");

@@ -28,6 +28,7 @@ const SMALL: Shape = Shape {
     rounds: 1,
     rows: 2,
     log_words: 64,
+    batch: 16,
 };
 
 /// A bus, a sender and a receiver over the ratifier at work.

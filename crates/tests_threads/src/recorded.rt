@@ -12,7 +12,7 @@ use std::sync::Wait;
 use std::thread;
 
 /// The shortest ring.
-const SHORTEST: u64 = 129;
+const SHORTEST: u64 = 513;
 
 /// A number that tells which operations were applied, and in which order.
 #[derive(Clone, Copy, Drop, PartialEq, Eq)]
@@ -116,7 +116,7 @@ fn pages_that_are_refused(rt: HostRuntime) {
     refused(&rt, &other, &read.log.order, OpenFault::NotEnded);
     other = page;
     if let Some(last) = other.next.get_mut(63) {
-        *last = 0xefff_ffff_fff0;
+        *last = 0xbfff_ffff_ffc0;
     }
     refused(&rt, &other, &read.log.order, OpenFault::Numbers);
 }

@@ -11,7 +11,7 @@ use std::thread;
 use std::thread::Threads;
 
 /// The shortest ring.
-const SHORTEST: u64 = 129;
+const SHORTEST: u64 = 513;
 
 /// How many operations were applied, how many of each worker, and a sum that tells their order.
 #[derive(Clone, Copy, Drop, PartialEq, Eq)]
@@ -114,14 +114,14 @@ fn all_execute<R: Threads + Wait + Abort + AllocGlobal + Sync>(
 
 #[test]
 fn all_in_execute_over_the_shortest_ring(rt: HostRuntime) {
-    all_execute(&rt, 1, 200, 0);
-    all_execute(&rt, 3, 100, 0);
-    all_execute(&rt, 8, 40, 0);
+    all_execute(&rt, 1, 250, 0);
+    all_execute(&rt, 3, 250, 0);
+    all_execute(&rt, 8, 120, 0);
 }
 
 #[test]
 fn one_is_slow(rt: HostRuntime) {
-    all_execute(&rt, 3, 60, 200);
+    all_execute(&rt, 3, 150, 200);
 }
 
 #[test]
@@ -132,15 +132,15 @@ fn one_only_reads(rt: HostRuntime) {
         opened(&rt, 3),
         &|mut replica: Replica<Tally>| {
             if replica.number().0 == 0 {
-                reads(&rt, &mut replica, 200, &most);
+                reads(&rt, &mut replica, 400, &most);
             } else {
-                executes(&rt, &mut replica, 100, 0, &most);
+                executes(&rt, &mut replica, 200, 0, &most);
             }
             replica.finish(&rt).expect(&rt, "the state")
         },
     )
     .expect(&rt, "threads");
-    are_equal(&rt, states.as_slice(), 200);
+    are_equal(&rt, states.as_slice(), 400);
 }
 
 /// Worker 0 is told to stop after so many rounds, and is dropped. The others go on, and are told
@@ -216,7 +216,7 @@ fn refused<R: Abort + AllocGlobal>(rt: &R, workers: u64, words: u64, why: OpenFa
 fn sizes_that_are_refused(rt: HostRuntime) {
     refused(&rt, 0, SHORTEST, OpenFault::Workers);
     refused(&rt, 65, 0, OpenFault::Workers);
-    refused(&rt, 64, 128, OpenFault::LogWords);
+    refused(&rt, 64, 512, OpenFault::LogWords);
     refused(&rt, 1, 65_537, OpenFault::LogWords);
     assert!(rt;
         open_replicas::<Tally>(rt.alloc(), 64)

@@ -1,7 +1,7 @@
 //! Random schedules of a bus and a machine.
 
-use crate::both::{Both, leave_the_same};
-use crate::games::{Game, Seats, play_on};
+use crate::both::{Answered, Both, leave_the_same};
+use crate::games::{Game, Seats, play_on, play_ring};
 use bus_adoptcommit::ThreeWord;
 use bus_machine::World;
 use bus_replay::lines::FirstLine;
@@ -23,15 +23,20 @@ fn below(dice: &mut Pcg32, most: u32) -> u32 {
     dice.next_u32() % most.max(1)
 }
 
-/// Something happens: a put, a close, a leave, some turns of a sender, or some of a receiver; in
-/// one time of 200 a sender stops, and in one a receiver leaves for good.
-fn happens<R: Abort + AllocGlobal>(rt: &R, both: &mut Both<'_>, dice: &mut Pcg32) {
+/// Something happens: a put or several, up to so many, a close, a leave, some turns of a sender, or
+/// some of a receiver. In one time of 200 a sender stops, and in one a receiver leaves for good.
+/// Where there may be several puts there may be as many more turns, up to one that does not go on:
+/// of a receiver always, and of a sender in one time of two.
+fn happens<R: Abort + AllocGlobal>(rt: &R, both: &mut Both<'_>, dice: &mut Pcg32, puts: u32) {
     let sender = u64::from(below(dice, 8)) % both.many().max(1);
     let receiver = u64::from(below(dice, 4)) % both.hearing().max(1);
     match below(dice, 200) {
         0..60 => {
-            let bytes = bytes(rt, dice);
-            both.take(rt, &Event::Put { sender, bytes });
+            let more = if puts > 1 { below(dice, puts) } else { 0 };
+            for _ in 0..=more {
+                let bytes = bytes(rt, dice);
+                both.take(rt, &Event::Put { sender, bytes });
+            }
         }
         60..64 => {
             both.take(rt, &Event::Close(sender));
@@ -45,20 +50,28 @@ fn happens<R: Abort + AllocGlobal>(rt: &R, both: &mut Both<'_>, dice: &mut Pcg32
         71 => {
             both.take(rt, &Event::Gone(receiver));
         }
-        72..170 => turns(rt, both, dice, sender),
+        72..170 => turns(rt, both, dice, sender, puts),
         _ => {
-            for _ in 0..below(dice, 12) {
-                both.take(rt, &Event::Recv(receiver));
+            for _ in 0..below(dice, 12u32.saturating_mul(puts)) {
+                let goes_on = both.take(rt, &Event::Recv(receiver));
+                if puts > 1 && !goes_on {
+                    return;
+                }
             }
         }
     }
 }
 
 /// Some turns of a sender.
-fn turns(rt: &impl Abort, both: &mut Both<'_>, dice: &mut Pcg32, sender: u64) {
-    for _ in 0..below(dice, 24) {
+fn turns(rt: &impl Abort, both: &mut Both<'_>, dice: &mut Pcg32, sender: u64, puts: u32) {
+    let is_long = puts > 1 && below(dice, 2) == 0;
+    let more = if is_long { puts } else { 1 };
+    for _ in 0..below(dice, 24u32.saturating_mul(more)) {
         let word = dice.next_u32();
-        both.take(rt, &Event::Turn { sender, word });
+        let goes_on = both.take(rt, &Event::Turn { sender, word });
+        if is_long && !goes_on {
+            return;
+        }
     }
 }
 
@@ -95,6 +108,16 @@ fn shape(dice: &mut Pcg32) -> Shape {
         rounds: 1 + u64::from(below(dice, 3)),
         rows: 2 + u64::from(below(dice, 7)),
         log_words: 16 + u64::from(below(dice, 150)),
+        batch: 16,
+    }
+}
+
+/// The shape of a ring of 1 to 64 messages a batch, of which the longest may never fit.
+fn ring_shape(dice: &mut Pcg32) -> Shape {
+    Shape {
+        log_words: 16 + u64::from(below(dice, 600)),
+        batch: 1 + u64::from(below(dice, 64)),
+        ..shape(dice)
     }
 }
 
@@ -113,20 +136,35 @@ struct Sum {
 struct Random {
     first: FirstLine,
     dice: Pcg32,
+    /// So many puts happen at once, at most.
+    puts: u32,
     world: Option<World<ThreeWord>>,
-    lost: u64,
+    answered: Answered,
+}
+
+impl Random {
+    /// The game of a bus that a first line asks for.
+    fn new(first: FirstLine, dice: Pcg32, puts: u32) -> Random {
+        Random {
+            first,
+            dice,
+            puts,
+            world: None,
+            answered: Answered::default(),
+        }
+    }
 }
 
 impl Game for Random {
     fn play<R: Threads + Wait + Abort + AllocGlobal + Sync>(&mut self, rt: &R, seats: Seats<'_>) {
         let mut both = Both::new(rt, self.first, seats);
         for _ in 0..100 {
-            happens(rt, &mut both, &mut self.dice);
+            happens(rt, &mut both, &mut self.dice, self.puts);
         }
         come_home(rt, &mut both, &mut self.dice);
-        let (world, lost) = both.into_world();
+        let (world, answered) = both.into_world();
         self.world = Some(world);
-        self.lost = lost;
+        self.answered = answered;
     }
 }
 
@@ -139,12 +177,7 @@ fn game_of(seed: u64) -> Random {
     } else {
         FirstLine::Cycle(shape)
     };
-    Random {
-        first,
-        dice,
-        world: None,
-        lost: 0,
-    }
+    Random::new(first, dice, 1)
 }
 
 /// Adds what a schedule came to.
@@ -160,7 +193,7 @@ fn add<R: Abort + AllocGlobal>(rt: &R, sum: &mut Sum, world: &World<ThreeWord>, 
 fn schedule<R: Threads + Wait + Abort + AllocGlobal + Sync>(rt: &R, seed: u64, sum: &mut Sum) {
     let mut game = game_of(seed);
     let left = play_on(rt, game.first, &mut game);
-    sum.lost = sum.lost.saturating_add(game.lost);
+    sum.lost = sum.lost.saturating_add(game.answered.lost);
     let world = game.world.expect(rt, "a machine");
     let is_home = leave_the_same(rt, &left, &world);
     add(rt, sum, &world, is_home);
@@ -178,6 +211,55 @@ fn bus_like_world(rt: HostRuntime) {
     assert!(rt; sum.ended > 100, "{} orders that ended", sum.ended);
     assert!(rt; sum.lost > 100, "{} tenures lost", sum.lost);
     assert!(rt; sum.out > 10, "{} pages out", sum.out);
+}
+
+/// What all schedules of rings came to.
+#[derive(Default, Drop)]
+struct RingSum {
+    /// Rings whose words were used again.
+    over: u64,
+    /// Rings of which a tenure delivered as many messages as a batch may have.
+    filled: u64,
+    /// The same, where these are more than 16.
+    long: u64,
+    full: u64,
+    lost: u64,
+}
+
+/// A ring and a machine of a random shape answer the same.
+fn ring_schedule<R: Threads + Wait + Abort + AllocGlobal + Sync>(
+    rt: &R,
+    seed: u64,
+    sum: &mut RingSum,
+) {
+    let mut dice = Pcg32::new(seed, 2);
+    let shape = ring_shape(&mut dice);
+    let seats = shape.receivers;
+    let mut game = Random::new(FirstLine::Ring { shape, seats }, dice, 40);
+    play_ring(rt, shape, &mut game);
+    let Answered { lost, full, most } = game.answered;
+    let world = game.world.expect(rt, "a machine");
+    let words = world.page().map_or(0, |page| page.words);
+    let is_filled = most == shape.batch;
+    sum.over = sum.over.saturating_add(u64::from(words > shape.log_words));
+    sum.filled = sum.filled.saturating_add(u64::from(is_filled));
+    sum.long = sum.long.saturating_add(u64::from(is_filled && most > 16));
+    sum.full = sum.full.saturating_add(full);
+    sum.lost = sum.lost.saturating_add(lost);
+}
+
+/// Random schedules of rings, of up to eight senders and three receivers.
+#[test]
+fn ring_like_world(rt: HostRuntime) {
+    let mut sum = RingSum::default();
+    for seed in 0..100 {
+        ring_schedule(&rt, seed, &mut sum);
+    }
+    assert!(rt; sum.over > 10, "{} rings used over", sum.over);
+    assert!(rt; sum.filled > 10, "{} rings with a full batch", sum.filled);
+    assert!(rt; sum.long > 5, "{} of these longer than 16", sum.long);
+    assert!(rt; sum.full > 10, "{} answers of no room", sum.full);
+    assert!(rt; sum.lost > 10, "{} tenures lost", sum.lost);
 }
 
 /// Three senders, of which the first stops after so many turns, while dice say who is next. Says
@@ -272,6 +354,7 @@ const THREE: Shape = Shape {
     rounds: 2,
     rows: 4,
     log_words: 64,
+    batch: 16,
 };
 
 #[test]

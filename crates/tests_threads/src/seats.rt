@@ -26,6 +26,7 @@ const TWO: Shape = Shape {
     rounds: 1,
     rows: 64,
     log_words: 1024,
+    batch: 16,
 };
 
 /// The same over two rows, which are used again.

@@ -12,6 +12,7 @@ const SMALL: Shape = Shape {
     rounds: 1,
     rows: 4,
     log_words: 64,
+    batch: 16,
 };
 
 /// So long, in milliseconds.

@@ -115,6 +115,7 @@ async fn work(
 async fn workers() -> Result<usize, Fault> {
     let (senders, receivers) = Bus::open_ring(Shape {
         log_words: 16,
+        batch: 1,
         ..Shape::of(WORKERS, WORKERS)
     })?;
     let sending = Arc::new(AtomicUsize::new(WORKERS));

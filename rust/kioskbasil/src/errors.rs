@@ -48,9 +48,14 @@ faults! {
         NoMemory = 37: "memory was refused",
         /// The order of the bus before has not ended.
         NotEnded = 49: "the order of the bus before has not ended",
-        /// A next number of the bus before is 2^48 - 65,536 or more; of a ring 2^48 - 2^44 - 16 or
-        /// more.
+        /// A next number of the bus before is 2^48 - 65,536 or more; of a ring with batches of B
+        /// messages 2^48 - B * (2^40 + 1) or more.
         Numbers = 50: "the numbers of a sender are used up",
+        /// Messages of a batch are not 1 to 64, or where the log is no ring not 16.
+        BadBatch = 56: "a batch has 1 to 64 messages, without a ring 16",
+        /// The log of a ring has fewer words than its longest frame: 1 + 8 B for batches of B
+        /// messages, so 513 for 64.
+        ShortRing = 57: "a ring shorter than its longest frame: one word, and eight a message",
     }
 }
 
@@ -63,8 +68,8 @@ faults! {
         Busy = 39: "no message is taken: the batch is on its way",
         /// More than 56 bytes.
         TooLong = 40: "no message is taken: more than 56 bytes",
-        /// 16 messages wait.
-        BatchFull = 41: "no message is taken: 16 messages wait",
+        /// As many messages wait as a batch of the bus may have.
+        BatchFull = 41: "no message is taken: as many wait as a batch has",
     }
 }
 
@@ -149,7 +154,8 @@ impl fmt::Display for OtherBus {
 
 impl Error for OtherBus {}
 
-/// The batch is longer than the log, so it never has room; nothing has changed.
+/// The batch is longer than the log, so it never has room; nothing has changed. That is never so of
+/// a ring.
 #[derive(Clone, Copy, Debug, PartialEq, Eq)]
 pub struct NeverFits;
 
@@ -175,7 +181,7 @@ pub enum TrySendError {
     /// batch may stand in the order already, so it is sent by no other way. Hear, but do not wait,
     /// and come back soon.
     Behind,
-    /// It is longer than the log, so it never has room.
+    /// It is longer than the log, which is no ring, so it never has room.
     NeverFits,
 }
 

@@ -18,9 +18,10 @@
 //! **Who sends and hears a ring must hear while it is answered `Full`.** The log of a ring
 //! (`Bus::open_ring`) is used again, so it serves on when it is full: `Full` is to be tried again,
 //! and the batch is kept. `try_send` waits for nobody, and `send_when_room` is for threads that only
-//! send. What a task does that sends and hears stands at `Sender::poll_send_when_room`. A batch
-//! longer than the log is `Full` for good, and its sender then neither sends, closes nor leaves:
-//! give a ring 129 words or more, or count the words of a batch before each put.
+//! send. What a task does that sends and hears stands at `Sender::poll_send_when_room`. A ring has
+//! room for its longest batch, or is refused. In a log that is no ring a batch that is longer is
+//! `Full` for good, and its sender then neither sends, closes nor leaves: give it 129 words or
+//! more, or count the words of a batch before each put.
 //!
 //! A receiver joins while the bus runs by `Receiver::fork` of another.
 //!
@@ -97,8 +98,11 @@ pub const MOST_RECEIVERS: usize = 64;
 /// Bytes of a message: at most 56.
 pub const MOST_BYTES: usize = 56;
 
-/// Messages that wait in a batch: at most 16.
-pub const MOST_MESSAGES: usize = 16;
+/// Messages that wait in a batch: at most 64.
+pub const MOST_MESSAGES: usize = 64;
+
+/// Messages that wait in a batch of a bus whose log is no ring: at most 16.
+pub const LOG_MESSAGES: usize = 16;
 
 /// From this number on no next sitting goes on: 65,536 words of a log may take as many numbers.
 const END_OF_NUMBERS: u64 = (1 << 48) - 65_536;
@@ -115,20 +119,24 @@ pub struct Shape {
     /// Tenures of the sitting: 1 to 256; where rows are used again 2 to 8. A batch takes one, a
     /// close and a leave too.
     pub rows: u64,
-    /// Words of the whole order, of a ring those that stand at once: 16 to 65,536. A batch takes 1,
-    /// a message 1 and one for each 8 bytes begun, a close or a leave 2. A full batch of 16 messages
-    /// of 56 bytes has 129.
+    /// Words of the whole order, of a ring those that stand at once: 16 to 65,536, and of a ring
+    /// with batches of B messages 1 + 8 B at least. A batch takes 1, a message 1 and one for each 8
+    /// bytes begun, a close or a leave 2. So a full batch of 16 messages of 56 bytes has 129, and
+    /// one of 64 has 513.
     pub log_words: u64,
     /// Rows of words are used again, by up to 2^40 tenures.
     pub again: bool,
     /// The log is a ring (`Bus::open_ring`): its words are used again, and so are its rows, whatever
     /// `again` says.
     pub ring: bool,
+    /// Messages of one batch: of a ring 1 to 64, else 16. 0, as `Shape::of` has it, says the most:
+    /// 64 of a ring, 16 else.
+    pub batch: u64,
 }
 
 impl Shape {
-    /// So many senders and so many receivers, with 2 rounds, 8 rows that are used again, and the
-    /// longest log.
+    /// So many senders and so many receivers, with 2 rounds, 8 rows that are used again, the
+    /// longest log, and batches of the most messages.
     pub fn of(senders: usize, receivers: usize) -> Shape {
         Shape {
             senders,
@@ -138,6 +146,7 @@ impl Shape {
             log_words: 65_536,
             again: true,
             ring: false,
+            batch: 0,
         }
     }
 
@@ -150,6 +159,15 @@ impl Shape {
     /// ```
     pub fn of_workers(workers: usize) -> Shape {
         Shape::of(workers, workers)
+    }
+
+    /// How many messages a batch has at most.
+    fn most_messages(&self) -> u64 {
+        match (self.batch, self.ring) {
+            (0, true) => MOST_MESSAGES as u64,
+            (0, false) => LOG_MESSAGES as u64,
+            (batch, _) => batch,
+        }
     }
 }
 
@@ -176,8 +194,8 @@ impl Page {
     /// That they are those of an order that has ended is the caller's word: where another number is
     /// given, two items may have one number.
     ///
-    /// Each number is below 2^48 - 65,536. A ring goes on below 2^48 - 2^44 - 16 alone, which
-    /// `Bus::open_after` tells.
+    /// Each number is below 2^48 - 65,536. A ring with batches of B messages goes on below 2^48 -
+    /// B * (2^40 + 1) alone, which `Bus::open_after` tells.
     ///
     /// ```
     /// use kioskbasil::{Bus, NumbersError, Page, Shape};
@@ -265,9 +283,8 @@ impl Bus {
     /// that is not needed any more is dropped: it leaves. One that neither hears nor is dropped
     /// keeps all senders without room for good.
     ///
-    /// A batch longer than the log is `Full` for good, and its sender then neither sends, closes nor
-    /// leaves. So give a ring 129 words or more, or count the words of a batch before each put: 1,
-    /// and of each message 1 and one for each 8 bytes begun. `has_room` tells it after the put.
+    /// Its log is as long as its longest batch at least: 1 + 8 B words for batches of B messages,
+    /// so 513 where `batch` is 0 or 64. Else the answer is `ShortRing`.
     ///
     /// It is `open` with `ring` set in the shape; with that `open_after` opens one too.
     ///
@@ -275,7 +292,7 @@ impl Bus {
     /// use kioskbasil::{Bus, SendError, Shape, TrySendError, Turn};
     ///
     /// // A worker: it sends, and hears meanwhile.
-    /// let shape = Shape { log_words: 16, ..Shape::of(1, 1) };
+    /// let shape = Shape { log_words: 17, batch: 2, ..Shape::of(1, 1) };
     /// let (mut senders, mut receivers) = Bus::open_ring(shape)?;
     /// let (sender, receiver) = (&mut senders[0], &mut receivers[0]);
     /// let mut heard = Vec::new();
@@ -401,6 +418,7 @@ impl Bus {
             log_words: shape.log_words,
             again: shape.again,
             ring: shape.ring,
+            batch: shape.batch,
         };
         let mut senders = [raw::RawSender::NONE; MOST_SENDERS];
         let mut receivers = [raw::RawReceiver::NONE; MOST_RECEIVERS];
@@ -421,7 +439,7 @@ impl Bus {
         let receivers = receivers.into_iter().take(ears).enumerate();
         Ok((
             senders
-                .map(|raw| Sender::of_raw(raw, &bell, &shared))
+                .map(|raw| Sender::of_raw(raw, &shape, &bell, &shared))
                 .collect(),
             receivers
                 .map(|(number, raw)| Receiver::of_raw(raw, number, &shape, &bell, &shared))

@@ -1,13 +1,16 @@
 //! Long messages: each is cut into pieces that stand side by side in one frame.
 
 use crate::errors::PutError;
-use crate::{Item, Sender, MOST_BYTES, MOST_MESSAGES};
+use crate::{Item, Sender, MOST_BYTES};
 use std::error::Error;
 use std::fmt;
 use std::ops::Deref;
 
 /// Bytes of a long message: at most 880, which are 16 pieces of 55.
-pub const MOST_LONG_BYTES: usize = MOST_MESSAGES * PIECE_BYTES;
+pub const MOST_LONG_BYTES: usize = MOST_PIECES * PIECE_BYTES;
+
+/// Pieces of a long message: at most 16.
+const MOST_PIECES: usize = 16;
 
 /// Bytes of a long message in one piece: a byte before them says how many pieces follow.
 const PIECE_BYTES: usize = MOST_BYTES - 1;
@@ -18,15 +21,6 @@ const _: () = assert!(MOST_LONG_BYTES == 880);
 #[inline]
 pub(crate) fn pieces_of(length: usize) -> usize {
     ((length + PIECE_BYTES - 1) / PIECE_BYTES).max(1)
-}
-
-/// How many words of a frame they take: each 1, and one for each 8 bytes begun.
-#[inline]
-pub(crate) fn words_of(length: usize) -> u64 {
-    let many = pieces_of(length);
-    let last = length - (many - 1) * PIECE_BYTES;
-    let words = (many - 1) * (1 + MOST_BYTES / 8) + 1 + (1 + last + 7) / 8;
-    words as u64
 }
 
 /// What some items begin with.
@@ -46,7 +40,7 @@ pub(crate) fn begun(items: &[Item]) -> Begun {
     match items.first().map(|item| item.first()) {
         None => Begun::Part,
         Some(Some(0)) => Begun::Whole(1),
-        Some(Some(&follow)) if usize::from(follow) < MOST_MESSAGES => {
+        Some(Some(&follow)) if usize::from(follow) < MOST_PIECES => {
             several_begun(items, 1 + usize::from(follow))
         }
         Some(_) => Begun::NoPiece,
@@ -149,7 +143,7 @@ pub enum PutLongError {
     Busy,
     /// More than 880 bytes.
     TooLong,
-    /// Its pieces and what waits are more than 16 messages.
+    /// Its pieces and what waits are more messages than a batch may have.
     BatchFull,
 }
 
@@ -215,7 +209,9 @@ impl Sender {
     /// none: so they come into the order in one frame, side by side. `Receiver::next_long` joins
     /// them. Where it is `BatchFull`, send the batch first.
     ///
-    /// All 16 pieces of 880 bytes take 129 words of the log: give a ring so many.
+    /// All 16 pieces of 880 bytes take 129 words of the log: give one that is no ring so many. A
+    /// ring whose batches have fewer than 16 messages takes no message of more pieces than these:
+    /// it is `BatchFull` for good.
     ///
     /// ```
     /// # use kioskbasil::{Bus, PutLongError, Shape, MOST_LONG_BYTES};
@@ -230,11 +226,10 @@ impl Sender {
     /// # Ok::<(), Box<dyn std::error::Error>>(())
     /// ```
     pub fn put_long(&mut self, message: &[u8]) -> Result<u64, PutLongError> {
-        let pending = self.pending() as usize;
         if message.len() > MOST_LONG_BYTES {
             return Err(self.refusal().unwrap_or(PutLongError::TooLong));
         }
-        if pending + pieces_of(message.len()) > MOST_MESSAGES {
+        if self.pending() + pieces_of(message.len()) as u64 > self.batch_limit() {
             return Err(self.refusal().unwrap_or(PutLongError::BatchFull));
         }
         self.put_pieces(message).map_err(PutLongError::from)

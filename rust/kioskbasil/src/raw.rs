@@ -44,6 +44,7 @@ pub struct Sizes {
     pub log_words: u64,
     pub again: bool,
     pub ring: bool,
+    pub batch: u64,
 }
 
 #[repr(C)]

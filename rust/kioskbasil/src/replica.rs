@@ -71,7 +71,7 @@ mod told;
 pub use errors::ReplicaError;
 pub use replaying::replay;
 
-use crate::{Bell, Bus, OpenError, Page, Receiver, Sender, Shape, Waiting};
+use crate::{Bell, Bus, OpenError, Page, Receiver, Sender, Shape, Waiting, MOST_MESSAGES};
 use seat::Seat;
 use std::fmt;
 use std::sync::Arc;
@@ -93,8 +93,9 @@ pub enum Replicas {}
 
 impl Replicas {
     /// Opens a bus with a replica for each of its senders, in the order of their numbers:
-    /// `Shape::of_workers(3)` is for three. Its log is a ring, and it has as many receivers as
-    /// senders, whatever `shape` says of these. All first states are to be equal.
+    /// `Shape::of_workers(3)` is for three. Its log is a ring with batches of 64 messages, and it
+    /// has as many receivers as senders, whatever `shape` says of these. So the log has 513 words
+    /// or more. All first states are to be equal.
     ///
     /// An `OpenError` where `shape` is of no bus, or memory was refused.
     pub fn open<S: State>(
@@ -103,9 +104,10 @@ impl Replicas {
     ) -> Result<Vec<Replica<S>>, OpenError> {
         let (senders, receivers) = Bus::open_ring(Shape {
             receivers: shape.senders,
+            batch: MOST_MESSAGES as u64,
             ..shape
         })?;
-        Ok(seated(shape.log_words, senders, receivers, first))
+        Ok(seated(senders, receivers, first))
     }
 
     /// As `open`, over a bus that goes on with the numbers of this page, and with one more
@@ -168,19 +170,19 @@ impl Replicas {
         let shape = Shape {
             receivers: shape.senders.saturating_add(1),
             ring: true,
+            batch: MOST_MESSAGES as u64,
             ..shape
         };
         let (senders, mut receivers) = Bus::open_after(shape, *page)?;
         senders[0].end_with_senders();
         let recorder = receivers.remove(shape.senders);
-        let replicas = seated(shape.log_words, senders, receivers, first);
+        let replicas = seated(senders, receivers, first);
         Ok((replicas, recorder))
     }
 }
 
 /// A replica for each sender, with the receiver of its number.
 fn seated<S: State>(
-    log_words: u64,
     senders: Vec<Sender>,
     receivers: Vec<Receiver>,
     mut first: impl FnMut() -> S,
@@ -191,7 +193,7 @@ fn seated<S: State>(
         number: u32::from(sender.number()),
         bell: sender.bell().clone(),
         waiting: Waiting::default(),
-        seat: Some(Seat::new(sender, receiver, &told, log_words)),
+        seat: Some(Seat::new(sender, receiver, &told)),
         words: 0,
         state: first(),
     });

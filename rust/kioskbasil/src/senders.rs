@@ -4,7 +4,7 @@ use crate::errors::{CloseError, NeverFits, PutError, SendError, TrySendError, Un
 use crate::raw;
 use crate::shared::Shared;
 use crate::waiting::{nap, BackOff, Polled, Sleeper, Words, LEAST_LOOKS, MOST_LOOKS};
-use crate::{Bell, Waiting, MOST_MESSAGES};
+use crate::{Bell, Shape, Waiting};
 use std::sync::Arc;
 use std::task::{Context, Poll};
 use std::time::Duration;
@@ -131,6 +131,8 @@ pub struct Sender {
     raw: raw::RawSender,
     random: Words,
     number: u8,
+    /// Its batch has so many messages at most.
+    most: u64,
     /// A close of it was taken.
     closes: bool,
     /// A leave of it was taken.
@@ -164,11 +166,17 @@ impl Drop for Sender {
 }
 
 impl Sender {
-    pub(crate) fn of_raw(raw: raw::RawSender, bell: &Bell, shared: &Arc<Shared>) -> Sender {
+    pub(crate) fn of_raw(
+        raw: raw::RawSender,
+        shape: &Shape,
+        bell: &Bell,
+        shared: &Arc<Shared>,
+    ) -> Sender {
         let mut sender = Sender {
             raw,
             random: Words::new(),
             number: 0,
+            most: shape.most_messages(),
             closes: false,
             leaves: false,
             has_left: false,
@@ -195,9 +203,28 @@ impl Sender {
         self.number
     }
 
-    /// How many messages wait in its batch, at most 16.
+    /// How many messages wait in its batch, at most `batch_limit`.
     pub fn pending(&mut self) -> u64 {
         self.shown().pending
+    }
+
+    /// How many messages its batch has at most: as the shape of its bus says, 1 to 64, where that
+    /// is a ring, and else 16.
+    ///
+    /// ```
+    /// # use kioskbasil::{Bus, PutError, Shape, LOG_MESSAGES, MOST_MESSAGES};
+    /// let (senders, _receivers) = Bus::open(Shape::of(1, 1))?;
+    /// assert_eq!(senders[0].batch_limit(), LOG_MESSAGES as u64);
+    /// let (senders, _receivers) = Bus::open_ring(Shape::of(1, 1))?;
+    /// assert_eq!(senders[0].batch_limit(), MOST_MESSAGES as u64);
+    /// let (mut senders, _receivers) = Bus::open_ring(Shape { batch: 1, ..Shape::of(1, 1) })?;
+    /// assert_eq!((senders[0].put(b"one"), senders[0].batch_limit()), (Ok(0), 1));
+    /// assert_eq!(senders[0].put(b"two"), Err(PutError::BatchFull));
+    /// # Ok::<(), kioskbasil::OpenError>(())
+    /// ```
+    #[inline]
+    pub fn batch_limit(&self) -> u64 {
+        self.most
     }
 
     /// The number that its next message gets.
@@ -317,9 +344,9 @@ impl Sender {
         self.shown().wants_word
     }
 
-    /// Appends a message of at most 56 bytes to its batch of at most 16, and gives its number.
-    /// Takes no step. A batch comes into the order as one frame, with nothing of another sender in
-    /// between. What is longer goes by `put_long`.
+    /// Appends a message of at most 56 bytes to its batch, and gives its number. Takes no step. A
+    /// batch comes into the order as one frame, with nothing of another sender in between. What is
+    /// longer goes by `put_long`.
     ///
     /// ```
     /// # use kioskbasil::{Bus, PutError, Shape};
@@ -627,6 +654,7 @@ impl Sender {
     ///
     /// let (mut senders, mut receivers) = Bus::open_ring(Shape {
     ///     log_words: 16,
+    ///     batch: 1,
     ///     ..Shape::of(1, 1)
     /// })?;
     /// for number in 0..100 {
@@ -661,13 +689,16 @@ impl Sender {
     /// ```
     /// use kioskbasil::{Bus, NeverFits, Shape, Turn};
     ///
-    /// let shape = Shape { log_words: 16, ..Shape::of(1, 1) };
+    /// let shape = Shape { log_words: 16, batch: 1, ..Shape::of(1, 1) };
     /// let (mut senders, mut receivers) = Bus::open_ring(shape)?;
     /// senders[0].send_all([[0; 56]])?;
     /// senders[0].put(&[1; 56])?;
     /// assert_eq!((senders[0].has_room(), senders[0].send()), (Ok(false), Turn::Full));
     /// while receivers[0].try_item().is_some() {}
     /// assert_eq!(senders[0].has_room(), Ok(true));
+    ///
+    /// let (mut senders, _receivers) = Bus::open(Shape { batch: 0, ..shape })?;
+    /// senders[0].put(&[1; 56])?;
     /// senders[0].put(&[2; 56])?;
     /// assert_eq!(senders[0].has_room(), Err(NeverFits));
     /// # Ok::<(), Box<dyn std::error::Error>>(())
@@ -696,7 +727,7 @@ impl Sender {
     /// ```
     /// use kioskbasil::{Bus, Shape, Turn};
     ///
-    /// let shape = Shape { log_words: 16, ..Shape::of(1, 1) };
+    /// let shape = Shape { log_words: 16, batch: 1, ..Shape::of(1, 1) };
     /// let (mut senders, mut receivers) = Bus::open_ring(shape)?;
     /// let (mut sender, mut receiver) = (senders.remove(0), receivers.remove(0));
     /// let hears = std::thread::spawn(move || receiver.by_ref().count());
@@ -724,7 +755,7 @@ impl Sender {
     /// use kioskbasil::{Bus, Shape};
     /// use std::time::Duration;
     ///
-    /// let shape = Shape { log_words: 16, ..Shape::of(1, 1) };
+    /// let shape = Shape { log_words: 16, batch: 1, ..Shape::of(1, 1) };
     /// let (mut senders, mut receivers) = Bus::open_ring(shape)?;
     /// senders[0].send_all([[0; 56]])?;
     /// senders[0].put(&[1; 56])?;
@@ -982,8 +1013,8 @@ impl Sender {
     }
 
     /// Sends what waits, a close or a leave too, and then these, in their order, in batches of at
-    /// most 16. Ok says that nothing waits any more. It does not wait for room: of a ring, after
-    /// `Full`, hear and go on with the messages behind `put`.
+    /// most `batch_limit`. Ok says that nothing waits any more. It does not wait for room: of a
+    /// ring, after `Full`, hear and go on with the messages behind `put`.
     ///
     /// ```
     /// use kioskbasil::{Bus, SendError, Shape, Turn};
@@ -1004,7 +1035,7 @@ impl Sender {
         let mut put = 0;
         self.send_off().map_err(|why| Unsent { put, why })?;
         for message in messages {
-            if is_full(put) {
+            if is_full(put, self.most) {
                 self.send_off().map_err(|why| Unsent { put, why })?;
             }
             let taken = self.put(message.as_ref()).map_err(SendError::Put);
@@ -1025,7 +1056,7 @@ impl Sender {
             .await
             .map_err(|why| Unsent { put, why })?;
         for message in messages {
-            if is_full(put) {
+            if is_full(put, self.most) {
                 self.send_off_async()
                     .await
                     .map_err(|why| Unsent { put, why })?;
@@ -1091,7 +1122,8 @@ impl Sender {
     }
 }
 
-/// After so many messages, put one by one and sent off where the batch was full, it is full again.
-fn is_full(put: usize) -> bool {
-    put > 0 && put % MOST_MESSAGES == 0
+/// After so many messages, put one by one and sent off where the batch was full, which has so many
+/// at most, it is full again.
+fn is_full(put: usize, most: u64) -> bool {
+    put > 0 && put as u64 % most == 0
 }

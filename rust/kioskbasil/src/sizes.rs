@@ -1,10 +1,12 @@
-//! What a sitting takes of a bus, as sums. `u64::MAX` stands for all that 64 bits cannot count.
+//! What a sitting takes of a bus whose log is no ring, as sums. `u64::MAX` stands for all that 64
+//! bits cannot count.
 
-use crate::MOST_MESSAGES;
+use crate::LOG_MESSAGES;
 
-/// How many batches of at most 16 a sender makes of so many messages.
+/// How many batches of at most 16, which are the most without a ring, a sender makes of so many
+/// messages.
 fn batches(messages: u64) -> u64 {
-    let most = MOST_MESSAGES as u64;
+    let most = LOG_MESSAGES as u64;
     messages / most + u64::from(messages % most != 0)
 }
 

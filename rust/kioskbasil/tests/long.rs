@@ -11,9 +11,21 @@ use std::sync::Arc;
 use std::task::{Context, Poll, Waker};
 use std::thread;
 
+/// A ring of so many words, with batches of 16 messages.
 fn open(senders: usize, receivers: usize, log_words: u64) -> (Vec<Sender>, Vec<Receiver>) {
+    open_by(16, senders, receivers, log_words)
+}
+
+/// The same, with batches of so many messages.
+fn open_by(
+    batch: u64,
+    senders: usize,
+    receivers: usize,
+    log_words: u64,
+) -> (Vec<Sender>, Vec<Receiver>) {
     Bus::open_ring(Shape {
         log_words,
+        batch,
         ..Shape::of(senders, receivers)
     })
     .unwrap()
@@ -73,6 +85,37 @@ fn small_ones_share_a_batch() {
     assert_eq!(heard[20].number, 31);
 }
 
+/// A batch of 64 takes four of the longest ones, and one of 2 no message of three pieces.
+#[test]
+fn as_many_share_a_batch_as_it_has_messages() {
+    let (mut senders, mut receivers) = open_by(64, 1, 1, 513);
+    for number in 0..4 {
+        let put = senders[0].put_long(&bytes(0, number, MOST_LONG_BYTES));
+        assert_eq!(put, Ok(16 * number + 15));
+    }
+    assert_eq!(senders[0].put_long(b""), Err(PutLongError::BatchFull));
+    assert!(is_delivered(senders[0].send()));
+    for number in 0..4 {
+        let heard = receivers[0].try_long().unwrap().unwrap();
+        assert_eq!(heard[..], bytes(0, number, MOST_LONG_BYTES));
+    }
+    let (mut senders, mut receivers) = open_by(2, 1, 1, 17);
+    for length in [111, 880] {
+        let put = senders[0].put_long(&bytes(0, 0, length));
+        assert_eq!(
+            (put, senders[0].pending()),
+            (Err(PutLongError::BatchFull), 0)
+        );
+    }
+    assert_eq!(senders[0].put_long(b"short"), Ok(0));
+    assert_eq!(senders[0].put_long(&[7; 56]), Err(PutLongError::BatchFull));
+    assert!(is_delivered(senders[0].send()));
+    assert_eq!(receivers[0].try_long().unwrap().unwrap()[..], b"short"[..]);
+    assert_eq!(senders[0].put_long(&[7; 110]), Ok(2));
+    assert!(is_delivered(senders[0].send()));
+    assert_eq!(receivers[0].try_long().unwrap().unwrap()[..], [7; 110]);
+}
+
 /// Of several causes the first, as of `put`.
 #[test]
 fn refusals_change_nothing() {
@@ -106,7 +149,11 @@ fn refusals_change_nothing() {
 
 #[test]
 fn a_batch_that_is_longer_than_the_log_is_told() {
-    let (mut senders, _receivers) = open(1, 1, 128);
+    let shape = Shape {
+        log_words: 128,
+        ..Shape::of(1, 1)
+    };
+    let (mut senders, _receivers) = Bus::open(shape).unwrap();
     senders[0].put_long(&[0; 880]).unwrap();
     assert_eq!(senders[0].has_room(), Err(NeverFits));
 }
@@ -115,9 +162,9 @@ fn a_batch_that_is_longer_than_the_log_is_told() {
 /// all of each sender.
 #[test]
 fn threads_hear_all_over_a_full_ring() {
-    for log_words in [129, 1024] {
+    for (batch, log_words) in [(16, 129), (64, 513), (64, 1024)] {
         in_time(move || {
-            let (senders, receivers) = open(3, 2, log_words);
+            let (senders, receivers) = open_by(batch, 3, 2, log_words);
             let hears = |mut receiver: Receiver| {
                 let (mut next, mut heard) = ([0; 3], 0);
                 while heard < 3 * 300 {

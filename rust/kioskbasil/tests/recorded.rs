@@ -50,7 +50,7 @@ fn replayed(frames: &[Frame]) -> Log {
     log
 }
 
-/// Replicas over a ring of 129 words, and the thread that records them in a file.
+/// Replicas over a ring of 513 words, and the thread that records them in a file.
 struct Sitting {
     replicas: Vec<Replica<Log>>,
     watch: Watch,
@@ -59,7 +59,7 @@ struct Sitting {
 
 impl Sitting {
     fn open(path: &Path, page: &Page, first: &Log) -> Sitting {
-        let (replicas, ear) = open(129, page, first);
+        let (replicas, ear) = open(513, page, first);
         let header = Header::after(WORKERS, page).unwrap();
         let journal = Journal::create(path, header, SyncPolicy::Never).unwrap();
         Sitting {
@@ -339,7 +339,7 @@ fn runs_that_are_cut_anywhere_go_on() {
         let read = journal::read_from(&bytes[..cut]).unwrap();
         let (log, page) = (replayed(read.frames()), read.page().unwrap());
         assert_eq!(log.0, logs[0].0[..log.0.len()]);
-        let (mut replicas, _ear) = open(129, &page, &log);
+        let (mut replicas, _ear) = open(513, &page, &log);
         for replica in &mut replicas {
             let own = log.0.iter().filter(|it| it.0 == replica.number());
             let next: u64 = own.map(|it| pieces(it.1.len())).sum();
@@ -389,7 +389,7 @@ fn items_that_are_no_operations_are_refused() {
 /// An operation on which `apply` panics stands in the order, and so in the journal.
 #[test]
 fn what_panics_panics_in_a_replay_too() {
-    let (mut replicas, mut ear) = open(129, &first_page(), &Log::default());
+    let (mut replicas, mut ear) = open(513, &first_page(), &Log::default());
     replicas[0].execute(b"x").unwrap();
     let executes = AssertUnwindSafe(|| replicas[0].execute(b"panics"));
     assert!(panic::catch_unwind(executes).is_err());
@@ -417,7 +417,7 @@ fn leaves_bit_by_bit(replica: &mut Replica<Log>) {
 #[test]
 fn all_leave_and_the_recording_ends() {
     for round in 0..200 {
-        let (replicas, ear) = open(129, &first_page(), &Log::default());
+        let (replicas, ear) = open(513, &first_page(), &Log::default());
         let records = thread::spawn(|| ear_of_all(ear));
         let work = move |mut replica: Replica<Log>| {
             replica.submit(b"x").unwrap();
@@ -453,7 +453,7 @@ fn ear_of_all(mut ear: Receiver) -> Vec<Frame> {
 /// Dropped replicas have left: where the last one has room, it puts the end mark.
 #[test]
 fn all_are_dropped_and_the_recording_ends() {
-    let (mut replicas, ear) = open(129, &first_page(), &Log::default());
+    let (mut replicas, ear) = open(513, &first_page(), &Log::default());
     let records = thread::spawn(|| ear_of_all(ear));
     replicas[1].execute(b"x").unwrap();
     replicas[0].submit(b"not sent").unwrap();
@@ -488,7 +488,7 @@ impl JournalFile for Few {
 /// The receiver goes with the thread that records, so the ring is not held up.
 #[test]
 fn workers_are_told_that_recording_has_failed_and_go_on() {
-    let (mut replicas, ear) = open(129, &first_page(), &Log::default());
+    let (mut replicas, ear) = open(513, &first_page(), &Log::default());
     let header = Header::after(WORKERS, &first_page()).unwrap();
     let journal = Journal::on(Few(1000), header, SyncPolicy::Never).unwrap();
     let watch = journal.watch();
@@ -525,7 +525,7 @@ fn shapes_and_pages_that_do_not_fit_are_refused() {
     assert_eq!(opened(64, &page), Err(OpenError::Receivers));
     assert_eq!(opened(65, &page), Err(OpenError::Senders));
     assert_eq!(opened(usize::MAX, &page), Err(OpenError::Senders));
-    let spent = Page::from_numbers(&[0, (1 << 48) - (1 << 44) - 16]).unwrap();
+    let spent = Page::from_numbers(&[0, (1 << 48) - (1 << 46) - 64]).unwrap();
     assert_eq!(opened(2, &spent), Err(OpenError::Numbers));
     let (senders, receivers) = bus(1, 1, 8);
     let open = Page::after(&Bus::end(senders, receivers).unwrap());

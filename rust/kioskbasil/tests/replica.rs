@@ -59,42 +59,27 @@ fn each<T: Send>(
     })
 }
 
-/// How long operations are. A ring of 16 words has room for the first of them.
+/// How long operations are.
 const LENGTHS: [usize; 12] = [0, 1, 55, 56, 30, 102, 110, 111, 879, 880, 7, 440];
-const SHORT: usize = 6;
 
 /// The operation of this number of a worker.
-type Operation = fn(worker: u32, number: u64) -> Vec<u8>;
-
 fn operation(worker: u32, number: u64) -> Vec<u8> {
-    bytes(worker, number, &LENGTHS)
-}
-
-fn short(worker: u32, number: u64) -> Vec<u8> {
-    bytes(worker, number, &LENGTHS[..SHORT])
-}
-
-fn length_of(worker: u32, number: u64, lengths: &[usize]) -> usize {
-    lengths[(number as usize * 5 + worker as usize) % lengths.len()]
-}
-
-fn bytes(worker: u32, number: u64, lengths: &[usize]) -> Vec<u8> {
-    let length = length_of(worker, number, lengths) as u64;
+    let length = length_of(worker, number) as u64;
     (0..length).map(|at| (at + number) as u8).collect()
+}
+
+fn length_of(worker: u32, number: u64) -> usize {
+    LENGTHS[(number as usize * 5 + worker as usize) % LENGTHS.len()]
 }
 
 /// The number of that operation, as `submit` gives it.
 fn number_of(worker: u32, number: u64) -> u64 {
-    let all = (0..=number).map(|it| pieces(length_of(worker, it, &LENGTHS)));
+    let all = (0..=number).map(|it| pieces(length_of(worker, it)));
     all.sum::<u64>() - 1
 }
 
 /// Each worker's operations stand in the log in their order, from the first on, so many of each.
 fn check(log: &Log, many: &[u64]) {
-    check_by(log, many, operation);
-}
-
-fn check_by(log: &Log, many: &[u64], operation: Operation) {
     let mut next = vec![0; many.len()];
     for (from, bytes) in &log.operations {
         let number = &mut next[*from as usize];
@@ -111,11 +96,7 @@ fn are_equal(logs: &[Log]) {
 }
 
 /// A worker that executes so many operations, each of which answers its place.
-fn execute_all(replica: Replica<Log>, many: u64) -> Log {
-    execute_each(replica, many, operation)
-}
-
-fn execute_each(mut replica: Replica<Log>, many: u64, operation: Operation) -> Log {
+fn execute_all(mut replica: Replica<Log>, many: u64) -> Log {
     let (number, mut last) = (replica.number(), None);
     for count in 0..many {
         let place = replica.execute(&operation(number, count)).unwrap();
@@ -129,20 +110,17 @@ fn execute_each(mut replica: Replica<Log>, many: u64, operation: Operation) -> L
 
 #[test]
 fn all_execute_at_once_over_a_full_ring() {
-    let rings: [(Operation, _); 2] = [(operation, 129), (short, 16)];
-    for (operation, words) in rings {
-        for workers in [1, 3, 8] {
-            let work = move |replica| execute_each(replica, 300, operation);
-            let logs = in_time(move || each(open(workers, words), work));
-            are_equal(&logs);
-            check_by(&logs[0], &vec![300; workers], operation);
-        }
+    for workers in [1, 3, 8] {
+        let work = move |replica| execute_all(replica, 300);
+        let logs = in_time(move || each(open(workers, 513), work));
+        are_equal(&logs);
+        check(&logs[0], &vec![300; workers]);
     }
 }
 
 #[test]
 fn what_is_submitted_goes_in_batches_and_keeps_its_order() {
-    for words in [129, 200, 4096] {
+    for words in [513, 600, 4096] {
         let logs = in_time(move || {
             each(open(3, words), |mut replica| {
                 let number = replica.number();
@@ -169,7 +147,7 @@ fn one_only_reads_and_one_is_slow() {
     for workers in [3, 8] {
         let stop = Arc::new(AtomicBool::new(false));
         let logs = in_time(move || {
-            each(open(workers, 129), |mut replica| match replica.number() {
+            each(open(workers, 513), |mut replica| match replica.number() {
                 0 => {
                     let mut before = 0;
                     while !stop.load(SeqCst) {
@@ -237,7 +215,7 @@ fn latest_has_what_a_flush_has_sent() {
 
 #[test]
 fn an_operation_that_is_too_long_changes_nothing() {
-    let mut replica = open::<Log>(1, 129).remove(0);
+    let mut replica = open::<Log>(1, 513).remove(0);
     assert_eq!(replica.submit(&[0; 881]), Err(ReplicaError::TooLong));
     assert_eq!(replica.execute(&[0; 881]), Err(ReplicaError::TooLong));
     assert_eq!(replica.execute(&[0; 880]), Ok(0));
@@ -246,18 +224,34 @@ fn an_operation_that_is_too_long_changes_nothing() {
     assert_eq!(replica.finish().unwrap().operations.len(), 3);
 }
 
-/// Nothing waits that keeps the worker from going on.
+/// Whatever the shape says of batches: 64 pieces of operations wait at most, and the next ones go
+/// in another batch.
 #[test]
-fn an_operation_that_is_longer_than_the_log_changes_nothing() {
-    let mut replica = open::<Log>(1, 16).remove(0);
-    for length in [103, 110, 880] {
-        let never = Err(ReplicaError::NeverFits);
-        assert_eq!(replica.submit(&vec![0; length]), never);
-        assert_eq!(replica.execute(&vec![0; length]).map(|it| it as u64), never);
+fn batches_of_64() {
+    for batch in [0, 1, 16, 64] {
+        let shape = Shape {
+            batch,
+            log_words: 513,
+            ..Shape::of_workers(2)
+        };
+        let mut replicas = Replicas::open(shape, Log::default).unwrap();
+        let (mut other, replica) = (replicas.remove(1), &mut replicas[0]);
+        for number in 0..64 {
+            assert_eq!(replica.submit_while(&[1; 55], || false), Ok(number));
+        }
+        assert_eq!((replica.words(), other.hear()), (0, Ok(0)));
+        assert_eq!(replica.submit_while(&[2; 55], || false), Ok(64));
+        assert_eq!((other.hear(), other.words()), (Ok(64), 513));
+        // Four of the longest.
+        replica.flush().unwrap();
+        assert_eq!(other.hear(), Ok(1));
+        for number in [80, 96, 112, 128] {
+            assert_eq!(replica.submit_while(&[3; 880], || false), Ok(number));
+        }
+        assert_eq!(other.hear(), Ok(0));
+        assert_eq!(replica.submit_while(&[4; 880], || false), Ok(144));
+        assert_eq!(other.hear(), Ok(4));
     }
-    assert_eq!(replica.submit(&[1; 102]), Ok(1));
-    assert_eq!(replica.execute(&[1; 102]), Ok(1));
-    assert_eq!(replica.finish().unwrap().operations.len(), 2);
 }
 
 /// Whatever waits before it, an operation of each length is applied whole, and answers its place.
@@ -289,11 +283,13 @@ fn operations_of_all_lengths() {
 fn shapes_that_are_no_bus_are_refused() {
     let opened = |shape| Replicas::open(shape, Log::default).map(|it| it.len());
     assert_eq!(opened(Shape::of(0, 1)), Err(OpenError::Senders));
-    let few = Shape {
-        log_words: 15,
+    let words = |log_words| Shape {
+        log_words,
         ..Shape::of(1, 1)
     };
-    assert_eq!(opened(few), Err(OpenError::LogWords));
+    assert_eq!(opened(words(15)), Err(OpenError::LogWords));
+    assert_eq!(opened(words(512)), Err(OpenError::ShortRing));
+    assert_eq!(opened(words(513)), Ok(1));
     assert_eq!(opened(Shape::of(8, 0)), Ok(8));
 }
 
@@ -303,7 +299,7 @@ fn stops_at_any_turn_lose_nothing_and_hang_nobody() {
     for workers in [3, 8] {
         for turn in 0..40 {
             let logs = in_time(move || {
-                each(open(workers, 129), |mut replica| {
+                each(open(workers, 513), |mut replica| {
                     if replica.number() > 0 {
                         return execute_all(replica, 30);
                     }
@@ -345,7 +341,7 @@ fn one_that_fails_at_any_turn_is_not_waited_for() {
     for workers in [3, 8] {
         for turn in 0..40 {
             let logs = in_time(move || {
-                each(open(workers, 129), |mut replica| {
+                each(open(workers, 513), |mut replica| {
                     if replica.number() > 0 {
                         return Some(execute_all(replica, 30));
                     }
@@ -385,7 +381,7 @@ fn one_that_fails_at_any_turn_is_not_waited_for() {
 fn one_that_is_dropped_after_any_call_is_not_waited_for() {
     for calls in 0..40 {
         let logs = in_time(move || {
-            each(open(3, 129), |mut replica| {
+            each(open(3, 513), |mut replica| {
                 if replica.number() > 0 {
                     return Some(execute_all(replica, 30));
                 }
@@ -415,7 +411,7 @@ fn one_that_panics_in_apply_is_poisoned_and_the_others_go_on() {
     for workers in [3, 8] {
         for place in [0, 1, 2, 10, 50] {
             let logs = in_time(move || {
-                let opened = open_to_panic(workers, 129, place);
+                let opened = open_to_panic(workers, 513, place);
                 each(opened, |mut replica| {
                     if replica.number() > 0 {
                         return Some(execute_all(replica, 100));
@@ -447,7 +443,7 @@ fn one_that_panics_in_apply_is_poisoned_and_the_others_go_on() {
 #[test]
 fn a_poisoned_replica_that_is_kept_stops_nobody() {
     in_time(|| {
-        let mut replicas = open_to_panic(2, 129, 0);
+        let mut replicas = open_to_panic(2, 513, 0);
         let (mut kept, mut anna) = (replicas.remove(0), replicas.remove(0));
         anna.execute(&operation(1, 0)).unwrap();
         assert!(panic::catch_unwind(AssertUnwindSafe(|| kept.hear())).is_err());
@@ -464,7 +460,7 @@ fn a_flag_and_a_ring_stop_a_worker_at_any_time() {
     for pause in 0..30 {
         let logs = in_time(move || {
             let stop = Arc::new(AtomicBool::new(false));
-            let replicas = open::<Log>(3, 129);
+            let replicas = open::<Log>(3, 513);
             let bell = replicas[0].bell().clone();
             let stopped = stop.clone();
             let stops = thread::spawn(move || {
@@ -496,7 +492,7 @@ fn a_flag_and_a_ring_stop_a_worker_at_any_time() {
 #[test]
 fn a_time_ends_a_call_and_loses_nothing() {
     in_time(|| {
-        let mut replicas = open::<Log>(2, 129);
+        let mut replicas = open::<Log>(2, 513);
         let (mut anna, mut bert) = (replicas.remove(0), replicas.remove(0));
         let time = Duration::from_millis(30);
         let mut count = 0;
@@ -530,7 +526,7 @@ fn a_time_ends_a_call_and_loses_nothing() {
 #[test]
 fn a_batch_that_is_full_waits_for_room_and_can_be_told_to_stop() {
     in_time(|| {
-        let mut replicas = open::<Log>(2, 129);
+        let mut replicas = open::<Log>(2, 513);
         let mut anna = replicas.remove(0);
         let mut count = 0;
         let time = Duration::from_millis(5);
@@ -560,7 +556,7 @@ fn a_batch_that_is_full_waits_for_room_and_can_be_told_to_stop() {
 #[test]
 fn those_that_wait_are_woken() {
     in_time(|| {
-        let mut replicas = open::<Log>(2, 129);
+        let mut replicas = open::<Log>(2, 513);
         let (mut anna, mut bert) = (replicas.remove(0), replicas.remove(0));
         let bell = anna.bell().clone();
         let stop = AtomicBool::new(false);
@@ -582,7 +578,7 @@ fn those_that_wait_are_woken() {
 #[test]
 fn a_replica_goes_to_another_thread() {
     fn is_send<T: Send>(_: &T) {}
-    let mut replicas = open::<Log>(1, 129);
+    let mut replicas = open::<Log>(1, 513);
     is_send(&replicas[0]);
     is_send(&replicas[0].execute_async(b"x"));
     let applied = Applied {

@@ -109,7 +109,7 @@ fn finish(replicas: Vec<Replica<Log>>, many: usize) {
 #[test]
 fn tasks_of_one_thread_execute_over_a_full_ring() {
     in_time(|| {
-        let mut replicas = open::<Log>(3, 32);
+        let mut replicas = open::<Log>(3, 513);
         let tasks = replicas
             .iter_mut()
             .map(|it| -> Pin<Box<dyn Future<Output = ()>>> {
@@ -129,7 +129,7 @@ fn tasks_of_one_thread_execute_over_a_full_ring() {
 #[test]
 fn tasks_of_threads_execute_over_a_full_ring() {
     in_time(|| {
-        let mut replicas = open::<Log>(4, 129);
+        let mut replicas = open::<Log>(4, 513);
         thread::scope(|scope| {
             for replica in &mut replicas {
                 scope.spawn(move || {
@@ -187,7 +187,7 @@ fn futures_that_are_dropped_lose_nothing_and_keep_nobody_waiting() {
             (number, put, replica.finish().unwrap())
         };
         let start = |replica| thread::spawn(move || work(replica));
-        let threads: Vec<_> = open(4, 129).into_iter().map(start).collect();
+        let threads: Vec<_> = open(4, 513).into_iter().map(start).collect();
         let ended: Vec<_> = threads.into_iter().map(|it| it.join().unwrap()).collect();
         for (number, put, log) in &ended {
             assert_eq!(log, &ended[0].2);
@@ -200,7 +200,7 @@ fn futures_that_are_dropped_lose_nothing_and_keep_nobody_waiting() {
 #[test]
 fn a_stream_has_all_that_is_applied_and_its_answers() {
     in_time(|| {
-        let mut replicas = open::<Log>(2, 129);
+        let mut replicas = open::<Log>(2, 513);
         let (mut anna, mut bert) = (replicas.remove(0), replicas.remove(0));
         let hears = thread::spawn(move || {
             let mut heard = Vec::new();

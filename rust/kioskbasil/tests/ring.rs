@@ -4,8 +4,8 @@ mod common;
 
 use common::ring;
 use kioskbasil::{
-    Bus, EndError, Item, NeverFits, OpenError, Receiver, SendError, Sender, Shape, TrySendError,
-    Turn, Waiting, MOST_MESSAGES, MOST_RECEIVERS,
+    Bus, EndError, Item, NeverFits, OpenError, Page, PutError, Receiver, SendError, Sender, Shape,
+    TrySendError, Turn, Waiting, LOG_MESSAGES, MOST_MESSAGES, MOST_RECEIVERS,
 };
 use std::sync::atomic::{AtomicBool, AtomicUsize, Ordering};
 use std::thread;
@@ -37,7 +37,7 @@ fn expect_each(heard: &[Item], senders: u8, many: u64) {
 #[test]
 fn rings_that_are_passed_over_many_times() {
     const MANY: u64 = 500;
-    for log_words in [16, 17, 23, 64, 128, 129] {
+    for log_words in [16, 17, 23, 64, 128, 129, 513] {
         let (senders, receivers) = ring(2, 2, log_words);
         let batch = if log_words < 64 { 1 } else { 5 };
         let (mut senders, heard): (Vec<Sender>, Vec<(Receiver, Vec<Item>)>) =
@@ -82,7 +82,7 @@ fn rings_that_are_passed_over_many_times() {
             (ended.counts[..3].to_vec(), ended.ended),
             (vec![MANY, MANY, 0], true)
         );
-        assert!(ended.floor > 10 * log_words && ended.log.len() as u64 <= log_words);
+        assert!(ended.floor > 5 * log_words && ended.log.len() as u64 <= log_words);
         // The end mark alone was not passed by the receiver that ended the bus.
         assert_eq!(ended.log.len(), 2);
     }
@@ -188,14 +188,19 @@ fn the_last_of_most_receivers() {
     assert_eq!((ended.floor, ended.log.len()), (9, 9));
 }
 
-/// Of a bus that is no ring nothing is passed, and Full is for good.
-#[test]
-fn a_bus_that_is_no_ring() {
+/// A bus of 16 words that is no ring.
+fn short_log() -> (Vec<Sender>, Vec<Receiver>) {
     let shape = Shape {
         log_words: 16,
         ..Shape::of(1, 1)
     };
-    let (mut senders, mut receivers) = Bus::open(shape).unwrap();
+    Bus::open(shape).unwrap()
+}
+
+/// Of a bus that is no ring nothing is passed, and Full is for good.
+#[test]
+fn a_bus_that_is_no_ring() {
+    let (mut senders, mut receivers) = short_log();
     senders[0].send_all([[1; 56]]).unwrap();
     senders[0].put(&[2; 56]).unwrap();
     assert_eq!(receivers[0].hear(&mut Vec::new()), 1);
@@ -208,9 +213,9 @@ fn a_bus_that_is_no_ring() {
 
 #[test]
 fn a_batch_that_never_fits() {
-    let (mut senders, mut receivers) = ring(1, 1, 16);
+    let (mut senders, mut receivers) = short_log();
     while senders[0].put(&[0; 56]).is_ok() {}
-    assert_eq!(senders[0].pending(), MOST_MESSAGES as u64);
+    assert_eq!(senders[0].pending(), LOG_MESSAGES as u64);
     assert_eq!(senders[0].has_room(), Err(NeverFits));
     let unasked = || -> bool { panic!("it is told before the first turn") };
     assert_eq!(senders[0].send_when_room(unasked), Err(NeverFits));
@@ -221,6 +226,63 @@ fn a_batch_that_never_fits() {
         TrySendError::from(NeverFits).to_string(),
         NeverFits.to_string()
     );
+}
+
+/// A batch takes as many of the longest messages as its bus says, and no more, and has room then.
+#[test]
+fn batches_of_as_many_messages_as_a_bus_says() {
+    let of = |ring, batch, log_words| Shape {
+        ring,
+        batch,
+        log_words,
+        ..Shape::of(1, 1)
+    };
+    let (most, without) = (MOST_MESSAGES as u64, LOG_MESSAGES as u64);
+    let shapes = [
+        (of(true, 0, 65_536), most),
+        (of(true, 0, 513), most),
+        (of(true, 64, 513), most),
+        (of(true, 63, 505), 63),
+        (of(true, 17, 137), 17),
+        (of(true, 2, 17), 2),
+        (of(true, 1, 16), 1),
+        (of(false, 0, 65_536), without),
+        (of(false, 16, 129), without),
+    ];
+    for (shape, limit) in shapes {
+        let (mut senders, mut receivers) = Bus::open(shape).unwrap();
+        let sender = &mut senders[0];
+        for number in 0..limit {
+            assert_eq!(sender.put(&[number as u8; 56]), Ok(number));
+        }
+        assert_eq!(sender.put(b""), Err(PutError::BatchFull), "{shape:?}");
+        assert_eq!((sender.pending(), sender.batch_limit()), (limit, limit));
+        assert_eq!(sender.has_room(), Ok(true));
+        let sent = sender.send();
+        assert!(matches!(sent, Turn::Delivered { last, .. } if last == limit - 1));
+        let frame = receivers[0].try_frame().unwrap();
+        assert_eq!(frame.items().len() as u64, limit);
+        assert_eq!(frame.end_place(), 1 + 8 * limit);
+        let items = frame.items().iter().enumerate();
+        assert!(items.into_iter().all(|(at, it)| it[..] == [at as u8; 56]));
+    }
+}
+
+/// `send_all` sends a batch where it is full.
+#[test]
+fn messages_are_sent_in_batches_of_as_many() {
+    for (batch, lengths) in [(3, &[3, 3, 1][..]), (7, &[7]), (64, &[7])] {
+        let shape = Shape {
+            batch,
+            ..Shape::of(1, 1)
+        };
+        let (mut senders, mut receivers) = Bus::open_ring(shape).unwrap();
+        senders[0].send_all([[1; 9]; 7]).unwrap();
+        senders[0].end_order().unwrap();
+        let frames: Vec<_> = std::iter::from_fn(|| receivers[0].next_frame()).collect();
+        let found: Vec<_> = frames.iter().map(|frame| frame.items().len()).collect();
+        assert_eq!(found, [lengths, &[0]].concat());
+    }
 }
 
 /// A receiver that is dropped, or by which a bus was not ended, lets the others go on.
@@ -340,14 +402,14 @@ fn room_wakes_a_sender() {
 #[test]
 fn the_end_is_told_to_who_waits_for_room() {
     for waiting in [Waiting::Spin, Waiting::Yield, Waiting::Sleep] {
-        let (mut senders, mut receivers) = ring(2, 1, 16);
+        let (mut senders, mut receivers) = ring(2, 1, 17);
         let (waits, closes) = senders.split_at_mut(1);
         let (waits, closes) = (&mut waits[0], &mut closes[0]);
         waits.set_waiting(waiting);
         closes.send_all([[0; 8]]).unwrap();
-        // A frame of the whole log: 1 word, 8, and 7.
+        // A frame of the whole log: 1 word, 8, and 8.
         waits.put(&[1; 56]).unwrap();
-        waits.put(&[2; 48]).unwrap();
+        waits.put(&[2; 56]).unwrap();
         assert_eq!((waits.send(), waits.has_room()), (Turn::Full, Ok(false)));
         let asked = AtomicUsize::new(0);
         let go_on = || {
@@ -406,12 +468,13 @@ fn behind_is_told() {
 #[test]
 fn a_sitting_after_a_ring() {
     for (first, then) in [(true, true), (true, false), (false, true)] {
-        let shape = Shape {
+        let shape = |ring| Shape {
             log_words: 64,
-            ring: first,
+            ring,
+            batch: if ring { 7 } else { 0 },
             ..Shape::of(2, 1)
         };
-        let (mut senders, mut receivers) = Bus::open(shape).unwrap();
+        let (mut senders, mut receivers) = Bus::open(shape(first)).unwrap();
         let rounds = if first { 50 } else { 2 };
         for number in 0..rounds {
             senders[1].send_all([[number; 40]]).unwrap();
@@ -429,15 +492,7 @@ fn a_sitting_after_a_ring() {
             (ended.left[..2].to_vec(), ended.ended),
             (vec![true, false], true)
         );
-        let (mut senders, mut receivers) = Bus::open_after(
-            Shape {
-                log_words: 64,
-                ring: then,
-                ..Shape::of(2, 1)
-            },
-            &ended,
-        )
-        .unwrap();
+        let (mut senders, mut receivers) = Bus::open_after(shape(then), &ended).unwrap();
         let rounds = if then { 50 } else { 2 };
         for number in 0..rounds {
             senders[1].send_all([[number; 40]]).unwrap();
@@ -465,4 +520,68 @@ fn rings_that_are_refused() {
     assert_eq!(Bus::open_ring(short).unwrap_err(), OpenError::LogWords);
     let many = Shape::of(1, MOST_RECEIVERS + 1);
     assert_eq!(Bus::open_ring(many).unwrap_err(), OpenError::Receivers);
+}
+
+/// Batches of a ring have 1 to 64 messages, and it is as long as the longest of them at least.
+#[test]
+fn rings_of_batches() {
+    let opened = |batch, log_words| {
+        let shape = Shape {
+            batch,
+            log_words,
+            ..Shape::of(1, 1)
+        };
+        Bus::open_ring(shape).map(|(senders, _)| senders[0].batch_limit())
+    };
+    for (batch, words) in [(0, 513), (64, 513), (63, 505), (16, 129), (2, 17)] {
+        let limit = if batch == 0 { 64 } else { batch };
+        assert_eq!(opened(batch, words), Ok(limit));
+        assert_eq!(opened(batch, words - 1), Err(OpenError::ShortRing));
+    }
+    // 9 words are fewer than each log has.
+    assert_eq!((opened(1, 16), opened(1, 65_536)), (Ok(1), Ok(1)));
+    assert_eq!(opened(0, 16), Err(OpenError::ShortRing));
+    for (batch, words) in [(65, 65_536), (65, 16), (u64::MAX, 513)] {
+        assert_eq!(opened(batch, words), Err(OpenError::BadBatch));
+    }
+    assert_eq!(
+        (opened(65, 15), opened(0, 15)),
+        (Err(OpenError::LogWords), Err(OpenError::LogWords))
+    );
+    for batch in [1, 15, 17, 64, 65] {
+        let shape = Shape {
+            batch,
+            ..Shape::of(1, 1)
+        };
+        assert_eq!(Bus::open(shape).unwrap_err(), OpenError::BadBatch);
+    }
+    let text = "a batch has 1 to 64 messages, without a ring 16";
+    assert_eq!(OpenError::BadBatch.to_string(), text);
+    let text = "a ring shorter than its longest frame: one word, and eight a message";
+    assert_eq!(OpenError::ShortRing.to_string(), text);
+}
+
+/// The numbers of a ring end where all its batches may not have theirs, told behind the sizes.
+#[test]
+fn numbers_of_rings_by_their_batches() {
+    let opened = |batch: u64, log_words, next| {
+        let shape = Shape {
+            batch,
+            log_words,
+            ring: true,
+            ..Shape::of(2, 1)
+        };
+        let page = Page::from_numbers(&[0, next]).unwrap();
+        Bus::open_after(shape, page).map(|_| batch)
+    };
+    for batch in [1, 2, 16, 63, 64] {
+        let end = (1 << 48) - batch * ((1 << 40) + 1);
+        assert_eq!(opened(batch, 513, end - 1), Ok(batch));
+        assert_eq!(opened(batch, 513, end), Err(OpenError::Numbers));
+    }
+    let end = (1 << 48) - (1 << 46) - 64;
+    assert_eq!(opened(0, 513, end - 1), Ok(0));
+    assert_eq!(opened(0, 513, end), Err(OpenError::Numbers));
+    assert_eq!(opened(0, 512, end), Err(OpenError::ShortRing));
+    assert_eq!(opened(65, 513, end), Err(OpenError::BadBatch));
 }

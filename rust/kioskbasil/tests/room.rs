@@ -222,12 +222,12 @@ fn a_receiver_that_passes_or_is_dropped_wakes_a_task() {
 #[test]
 fn the_end_wakes_a_task_that_waits_for_room() {
     for by_drop in [false, true] {
-        let (mut senders, mut receivers) = ring(2, 1, 16);
+        let (mut senders, mut receivers) = ring(2, 1, 17);
         let (mut closes, mut waits) = (senders.remove(1), senders.remove(0));
         closes.send_all([[0; 8]]).unwrap();
-        // A frame of the whole log: 1 word, 8, and 7.
+        // A frame of the whole log: 1 word, 8, and 8.
         waits.put(&[1; 56]).unwrap();
-        waits.put(&[2; 48]).unwrap();
+        waits.put(&[2; 56]).unwrap();
         thread::scope(|scope| {
             let sends = scope.spawn(|| run(waits.send_when_room_async()));
             thread::sleep(A_WHILE);
@@ -255,7 +255,8 @@ fn an_end_that_was_let_go_wakes_a_task() {
     let shape = Shape {
         rounds: 1,
         rows: 2,
-        log_words: 16,
+        log_words: 17,
+        batch: 2,
         ..Shape::of(3, 1)
     };
     let (mut senders, _receivers) = Bus::open_ring(shape).unwrap();
@@ -267,7 +268,7 @@ fn an_end_that_was_let_go_wakes_a_task() {
     }
     closes.send_all(["a"]).unwrap();
     waits.put(&[1; 56]).unwrap();
-    waits.put(&[2; 48]).unwrap();
+    waits.put(&[2; 56]).unwrap();
     assert_eq!(waits.has_room(), Ok(false));
     thread::scope(|scope| {
         let sends = scope.spawn(|| run(waits.send_when_room_async()));
@@ -309,7 +310,11 @@ fn two_tasks_that_wait_for_room_do_not_wake_each_other_for_good() {
 
 #[test]
 fn a_batch_that_never_fits_is_told_to_a_task() {
-    let (mut senders, mut receivers) = ring(1, 1, 16);
+    let shape = Shape {
+        log_words: 16,
+        ..Shape::of(1, 1)
+    };
+    let (mut senders, mut receivers) = Bus::open(shape).unwrap();
     while senders[0].put(&[0; 56]).is_ok() {}
     assert_eq!(run(senders[0].room_async()), Err(NeverFits));
     assert_eq!(run(senders[0].send_when_room_async()), Err(NeverFits));

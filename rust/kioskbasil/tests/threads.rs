@@ -3,7 +3,7 @@
 
 use kioskbasil::{
     Bus, CloseError, EndError, Item, NumbersError, OpenError, OtherBus, Page, PageError, PutError,
-    SendError, Shape, Turn, MOST_BYTES, MOST_MESSAGES,
+    SendError, Shape, Turn, LOG_MESSAGES, MOST_BYTES,
 };
 use std::cmp::Ordering;
 use std::error::Error;
@@ -20,6 +20,7 @@ fn eight_threads_hear_one_order() {
             log_words: 65_536,
             again,
             ring: false,
+            batch: 0,
         };
         let (senders, receivers) = Bus::open(shape).unwrap();
         let sending: Vec<_> = senders
@@ -218,11 +219,11 @@ fn senders_that_are_dropped_at_any_turn() {
 fn items_are_messages() {
     let (mut senders, mut receivers) = Bus::open(Shape::of(1, 1)).unwrap();
     let (mut others, mut ears) = Bus::open(Shape::of(1, 1)).unwrap();
-    let said = [[7; MOST_BYTES]; MOST_MESSAGES];
+    let said = [[7; MOST_BYTES]; LOG_MESSAGES];
     senders[0].send_all(said).unwrap();
     assert_eq!(senders[0].put(&[0; MOST_BYTES + 1]), Err(PutError::TooLong));
     let mut heard = Vec::new();
-    assert_eq!(receivers[0].hear(&mut heard), MOST_MESSAGES);
+    assert_eq!(receivers[0].hear(&mut heard), LOG_MESSAGES);
     others[0].send_all(heard).unwrap();
     assert!(said
         .iter()

@@ -92,6 +92,7 @@ fn senders_wait_for_so_long_and_keep_their_batch() {
 fn senders_wait_for_room_for_so_long() {
     let shape = Shape {
         log_words: 17,
+        batch: 2,
         ..Shape::of(1, 1)
     };
     let (mut senders, mut receivers) = Bus::open_ring(shape).unwrap();

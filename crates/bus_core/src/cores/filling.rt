@@ -40,7 +40,7 @@ impl<Q: Ratifier + Drop> SenderCore<Q> {
         self.turns.waiting()
     }
 
-    /// How many words the frame of what waits has, the head included: 2 to 129.
+    /// How many words the frame of what waits has, the head included: 2 to 513.
     pub fn frame_len(&self) -> u64
         requires { HasSomething self.now.core.queue }
         ensures len { result ≡ frame_len self.now.core }

@@ -19,9 +19,11 @@ use Rattle.bus_tenure.specs.Core.{Election, Layout}
 use Rattle.bus_tenure.specs.declared.pages.Page.{Page}
 use Rattle.bus_world.specs.Log.{first_numbers, ring_numbers}
 use Rattle.bus_world.specs.Starting.{AreNewReceivers, passed_behind}
-use Rattle.bus_register.specs.declared.limits.TheConstants.{MOST_SENDERS}
+use Rattle.bus_register.specs.declared.limits.TheConstants.{MOST_MESSAGES, MOST_SENDERS}
 use Rattle.bus_world.proofs.Beginning.{zeros}
 use Rattle.bus_world.specs.World.{no_bases, no_stops, AreBases, first_page}
+use Rattle.bus_world.specs.declared.limits.TheConstants.{FIRST_NUMBERS}
+use Rattle.bus_world.specs.declared.shapes.MakeFault.{MakeFault}
 use Rattle.bus_world.specs.declared.shapes.MakeFault.TheVariants as make
 use Rattle.bus_world.specs.declared.shapes.Shape.{Shape}
 use Rattle.bus_machine.proofs.Bases.AtNone.{passed_first}
@@ -30,6 +32,7 @@ use Rattle.bus_machine.specs.Machine.{passed_by, passers_place}
 use Rattle.bus_machine.specs.Playing.{layout_of, layout_passed, first_passed, machine_of, ShapeOf}
 use Rattle.bus_world.specs.Playing.{Within}
 use Rattle.bus_machine.specs.Playing.{IsServed, IsHeld, AreRows, MayGoOn, RefusedWith}
+use Rattle.bus_machine.specs.Playing.{IsBatch, MayNotGoOn}
 use Rattle.bus_machine.specs.Turning.{AreNewSenders}
 
 pub no_senders :
@@ -59,7 +62,7 @@ with_width shape width = record {
   width = width;
   capacity = shape.log_words;
   passers = 0;
-  batch = 16;
+  batch = shape.batch;
 }
 
 pub capacity_of : {S : Type 0} (P : Protocol S Bool Verdict) (shape : Shape) (reuse : Option ℕ)
@@ -73,7 +76,7 @@ passers_of P shape None passers = refl
 passers_of P shape (Some rows) passers = refl
 
 pub batch_of : {S : Type 0} (P : Protocol S Bool Verdict) (shape : Shape) (reuse : Option ℕ)
-    (passers : ℕ) → (layout_passed P shape reuse passers).batch ≡ 16
+    (passers : ℕ) → (layout_passed P shape reuse passers).batch ≡ shape.batch
 batch_of P shape None passers = refl
 batch_of P shape (Some rows) passers = refl
 
@@ -83,18 +86,29 @@ senders_are P shape None passers = refl
 senders_are P shape (Some rows) passers = refl
 
 -- below which numbers begin where there are passed places
-numbers_some : (passers : ℕ) → 0 < passers → first_numbers passers 16 ≡ ring_numbers 16
-numbers_some zero some = absurd (omega arith)
-numbers_some (suc n) some = refl
+numbers_some : (passers batch : ℕ) → 0 < passers
+    → first_numbers passers batch ≡ ring_numbers batch
+numbers_some zero batch some = absurd (omega arith)
+numbers_some (suc n) batch some = refl
 
-numbers_positive : (passers : ℕ) → 0 < first_numbers passers 16
-numbers_positive zero = omega arith
-numbers_positive (suc n) = omega arith
+-- a batch may have one message or more, and no more than any frame
+pub batch_within : (passers batch : ℕ) → IsBatch passers batch → Within 1 MOST_MESSAGES batch
+batch_within zero batch is = (omega arith, omega arith)
+batch_within (suc n) batch is = is
+
+-- so some number is low enough, and each that is leaves room for a sitting
+pub numbers_within : (passers batch : ℕ) → IsBatch passers batch
+    → (0 < first_numbers passers batch) × (first_numbers passers batch ≤ FIRST_NUMBERS)
+numbers_within zero batch is = (omega arith, omega arith)
+numbers_within (suc n) batch is =
+    let few = is.1 in let some = is.0 in (omega arith, omega arith)
 
 -- the numbers of a first sitting are below it
-pub no_bases_low : (passers s : ℕ) → slice_index no_bases s < first_numbers passers 16
-no_bases_low passers s =
-    let none = zeros MOST_SENDERS s in let some = numbers_positive passers in omega arith
+pub no_bases_low : (passers batch s : ℕ) → IsBatch passers batch
+    → slice_index no_bases s < first_numbers passers batch
+no_bases_low passers batch s is =
+    let none = zeros MOST_SENDERS s in
+    let some = (numbers_within passers batch is).0 in omega arith
 
 -- passed places lie behind the length and before the log
 pub passed_apart : (shape : Shape) (passers first : ℕ) (o : Option ℕ)
@@ -149,7 +163,7 @@ module _ {S : Type 0} (P : Protocol S Bool Verdict) (shape : Shape) (reuse : Opt
   has_place r low = elim each [ inl none ↦ inl none | inr all ↦ inr (omega arith) ]
 
   pub made_new : {E : Type 0} (bases : List ℕ) → AreBases bases
-      → ((s : ℕ) → slice_index bases s < first_numbers passers 16) → (home : Option Page)
+      → ((s : ℕ) → slice_index bases s < first_numbers passers shape.batch) → (home : Option Page)
       → home ≡ Some (first_page bases) → (words : List ℕ)
       → words ≡ replicate (log + shape.log_words) 0 → (senders : List (Sender E))
       → AreNewSenders layout reuse bases shape.senders senders
@@ -210,27 +224,48 @@ rows_served P shape (Some rows) passers served same = grind (arith, common_steps
 pub made_held :
     {E S : Type 0} (X : Election E) (P : Protocol S Bool Verdict) (shape : Shape) (reuse : Option ℕ)
     (passers : ℕ) → (passers ≡ 0) ⊎ (passers ≡ shape.receivers)
-    → IsServed shape reuse → ShapeOf shape reuse → (m : Machine E) → IsNew m
+    → IsServed shape reuse → IsBatch passers shape.batch → ShapeOf shape reuse → (m : Machine E)
+    → IsNew m
     → m.layout ≡ layout_passed P shape reuse passers → m.reuse ≡ reuse
     → length m.senders ≡ shape.senders → IsHeld X m
-made_held X P shape reuse passers each served same m new layout_is reuse_is many = record {
+made_held X P shape reuse passers each served batch same m new layout_is reuse_is many = record {
   senders_few = grind (arith, common_steps, senders_are);
   rows = grind (arith, common_steps, rows_served);
   capacity_some = grind (arith, common_steps, capacity_of);
   capacity_few = grind (arith, common_steps, capacity_of);
   passers_few = grind (arith, common_steps, passers_of);
-  batch = subst (λ n. Within 1 16 n)
-      (sym (ap (λ (x : Layout). x.batch) layout_is ∙ batch_of P shape reuse passers))
-      (omega arith, omega arith);
+  batch = subst (λ n. IsBatch n m.layout.batch)
+      (sym (ap (λ (x : Layout). x.passers) layout_is ∙ passers_of P shape reuse passers))
+      (subst (IsBatch passers)
+      (sym (ap (λ (x : Layout). x.batch) layout_is ∙ batch_of P shape reuse passers)) batch);
   senders =
       many ∙ sym (ap (λ (x : Layout). x.senders) layout_is ∙ senders_are P shape reuse passers);
   trails = no_machine_trails;
   reached = New m new;
 }
 
+-- ---- why none is made
+-- where its sizes are served, and a sitting with such batches does not begin with this page
+pub page_after : (shape : Shape) (reuse : Option ℕ) (passers : ℕ) (page : Option Page)
+    (why : MakeFault) → IsServed shape reuse → MayNotGoOn passers shape.batch page why
+    → RefusedWith passers shape reuse page why
+page_after shape reuse passers page make.Senders served h = absurd h
+page_after shape reuse passers page make.Receivers served h = absurd h
+page_after shape reuse passers page make.Rounds served h = absurd h
+page_after shape reuse passers page make.Rows served h = absurd h
+page_after shape reuse passers page make.LogWords served h = absurd h
+page_after shape reuse passers None make.Batch served h = (served, h)
+page_after shape reuse passers (Some page) make.Batch served h = (served, h)
+page_after shape reuse passers None make.NotEnded served h = absurd h
+page_after shape reuse passers (Some page) make.NotEnded served h = ((served, h.0), h.1)
+page_after shape reuse passers None make.Numbers served h = absurd h
+page_after shape reuse passers (Some page) make.Numbers served h =
+    ((served, h.0), h.1, h.2, h.3, h.4)
+page_after shape reuse passers page make.NoMemory served h = absurd h
+
 -- where memory is refused
 pub no_memory_after : (shape : Shape) (reuse : Option ℕ) (passers : ℕ) (page : Option Page)
-    → IsServed shape reuse → MayGoOn passers page
+    → IsServed shape reuse → IsBatch passers shape.batch → MayGoOn passers shape.batch page
     → RefusedWith passers shape reuse page make.NoMemory
-no_memory_after shape reuse passers None served follows = served
-no_memory_after shape reuse passers (Some page) served follows = (served, follows)
+no_memory_after shape reuse passers None served batch follows = (served, batch)
+no_memory_after shape reuse passers (Some page) served batch follows = ((served, batch), follows)

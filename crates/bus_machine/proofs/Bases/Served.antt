@@ -23,6 +23,6 @@ module _ {S : Type 0} (kind_of : S → Option Kind) (op : S → ℕ → Option O
       → Serves (election_with kind_of op fed P) (elections P shape.rounds)
       (layout_passed P shape reuse passers)
   served None passers = serves kind_of op fed P named own_kinds shape.senders shape.rounds
-      shape.rows shape.log_words passers 16 laws
+      shape.rows shape.log_words passers shape.batch laws
   served (Some rows) passers = serves kind_of op fed P named own_kinds shape.senders shape.rounds
-      TENURES shape.log_words passers 16 laws
+      TENURES shape.log_words passers shape.batch laws

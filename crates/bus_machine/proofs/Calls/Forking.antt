@@ -14,12 +14,13 @@ use Rattle.bus_deliverylog.specs.Receiving.{forked_at}
 use Rattle.bus_presence.proofs.ReclamationKept.{lt_tells}
 use Rattle.bus_register.specs.Protocol.{Protocol}
 use Rattle.bus_register.specs.Words.{register}
-use Rattle.bus_register.specs.declared.limits.TheConstants.{MOST_RECEIVERS, MOST_SENDERS}
+use Rattle.bus_register.specs.declared.limits.TheConstants.{MOST_RECEIVERS}
+use Rattle.bus_register.specs.declared.limits.TheConstants.{MOST_SENDERS}
 use Rattle.bus_register.specs.declared.limits.TheConstants.{PASSED_ALL}
 use Rattle.bus_register.specs.declared.registers.Op.{Op}
 use Rattle.bus_register.specs.declared.registers.Op.TheVariants.{Cas}
 use Rattle.bus_register.specs.declared.registers.SenderNo.{SenderNo}
-use Rattle.bus_tenure.specs.Core.{Election}
+use Rattle.bus_tenure.specs.Core.{Election, Layout}
 use Rattle.bus_world.proofs.Bounds.{words_low}
 use Rattle.bus_world.proofs.LogLaws.{length-logged}
 use Rattle.bus_world.proofs.PlayingLaws.{there}
@@ -36,8 +37,7 @@ use Rattle.bus_machine.proofs.Tenures.Nobody.{some_nobody}
 use Rattle.bus_machine.specs.Forking.{KeepsForked}
 use Rattle.bus_machine.specs.Machine.{Machine, Trails, Reached, Joins, Forks, IsOnWord, fork_in}
 use Rattle.bus_machine.specs.Machine.{passed_by, trails_joined}
-use Rattle.bus_world.specs.Playing.{Within}
-use Rattle.bus_machine.specs.Playing.{AreRows, IsHeld}
+use Rattle.bus_machine.specs.Playing.{AreRows, IsHeld, IsBatch}
 use Rattle.bus_machine.specs.Promise.{IsPromised, IsPromisedBy}
 
 -- its step is on the word that a leave stores to
@@ -178,7 +178,7 @@ module _ {E : Type 0} (X : Election E) (m m' : Machine E) (i j : ℕ) where
         capacity_some = subst (λ x. 0 < x.capacity) (sym same.0) h.capacity_some;
         capacity_few = subst (λ x. x.capacity ≤ 65536) (sym same.0) h.capacity_few;
         passers_few = subst (λ x. x.passers ≤ MOST_RECEIVERS) (sym same.0) h.passers_few;
-        batch = subst (λ x. Within 1 16 x.batch) (sym same.0) h.batch;
+        batch = subst (λ (x : Layout). IsBatch x.passers x.batch) (sym same.0) h.batch;
         senders = cc;
         trails = trails_joined i j n.0 h.trails;
         reached = Joins m m' h.trails i j n.0 h.reached d n.1 n.2;

@@ -9,7 +9,8 @@ use Rattle.std.proofs.lemmas.Grind.{flat_map-append, common_steps}
 use Rattle.std.proofs.lemmas.List.{length-append, length-drop}
 use Rattle.std.proofs.lemmas.Nat.{mod_below}
 use Rattle.std.proofs.lemmas.Option.{same_Some}
-use Rattle.bus_register.specs.declared.limits.TheConstants.{MOST_RECEIVERS, MOST_SENDERS}
+use Rattle.bus_register.specs.declared.limits.TheConstants.{MOST_MESSAGES, MOST_RECEIVERS}
+use Rattle.bus_register.specs.declared.limits.TheConstants.{MOST_SENDERS}
 use Rattle.bus_register.specs.Tables.{of_some}
 use Rattle.bus_batch.specs.Batches.{next_of}
 use Rattle.bus_batch.specs.Frames.{Frame, Order, AreFrames, log_words}
@@ -46,6 +47,7 @@ use Rattle.bus_world.specs.Private.Receiving.{IsReceiver}
 use Rattle.bus_world.specs.declared.events.Answer.{Answer}
 use Rattle.bus_world.specs.Private.Invariants.{given_at}
 use Rattle.bus_machine.proofs.Bases.AtNone.{event_reuse, flat_at_none}
+use Rattle.bus_machine.proofs.Bases.NewSenders.{batch_within}
 use Rattle.bus_machine.proofs.Frames.Cells.{length-ring}
 use Rattle.bus_machine.proofs.Bases.Leading.{Sits}
 use Rattle.bus_machine.proofs.Frames.Framed.{IsFramed, floor_first, framed}
@@ -57,7 +59,7 @@ use Rattle.bus_machine.specs.Machine.{base_of, Machine, Trails, Reached, Then, H
 use Rattle.bus_machine.specs.Machine.{has_stopped, trails_grown, log_place, log_of, owners_told}
 use Rattle.bus_machine.specs.Machine.{floor_of, passers_place, turn_answer, going}
 use Rattle.bus_world.specs.Playing.{Within}
-use Rattle.bus_machine.specs.Playing.{IsHeld, AreRows}
+use Rattle.bus_machine.specs.Playing.{IsHeld, AreRows, IsBatch}
 use Rattle.bus_machine.specs.Promise.{HasRows}
 
 -- ---- whatever happens
@@ -85,7 +87,7 @@ module _ {E : Type 0} (X : Election E) where
         capacity_some = subst (λ x. 0 < x.capacity) (sym i.0) h.capacity_some;
         capacity_few = subst (λ x. x.capacity ≤ 65536) (sym i.0) h.capacity_few;
         passers_few = subst (λ x. x.passers ≤ MOST_RECEIVERS) (sym i.0) h.passers_few;
-        batch = subst (λ x. Within 1 16 x.batch) (sym i.0) h.batch;
+        batch = subst (λ (x : Layout). IsBatch x.passers x.batch) (sym i.0) h.batch;
         senders = many_after m m' e a d ∙ h.senders ∙ sym (ap (λ x. x.senders) i.0);
         trails = trails_grown X m e a h.trails;
         reached = Then m m' h.trails e a h.reached d;
@@ -174,7 +176,7 @@ module _ {E : Type 0} (X : Election E) (P : Protocol E (Unit {0}) ℕ) (m : Mach
 module _ {E : Type 0} (X : Election E) (P : Protocol E (Unit {0}) ℕ) where
   -- ---- its sizes are served
   layout_ok : (x : Layout) (o : Option ℕ) → x.senders ≤ MOST_SENDERS → x.capacity ≤ 65536
-      → x.passers ≤ MOST_RECEIVERS → Within 1 16 x.batch → AreRows x o → IsLayout x
+      → x.passers ≤ MOST_RECEIVERS → Within 1 MOST_MESSAGES x.batch → AreRows x o → IsLayout x
   layout_ok x None few small passed batch r = grind (arith, common_steps)
   layout_ok x (Some rows) few small passed batch r = grind (arith, common_steps)
 
@@ -183,7 +185,7 @@ module _ {E : Type 0} (X : Election E) (P : Protocol E (Unit {0}) ℕ) where
   has_rows x (Some rows) r = r.0.0
 
   pub sits : (m : Machine E) → Serves X P m.layout → IsHeld X m → Sits X P m
-  sits m s h = grind (arith, common_steps, layout_ok, has_rows)
+  sits m s h = grind (arith, common_steps, layout_ok, has_rows, batch_within)
 
   module _ (m : Machine E) (s : Serves X P m.layout) (h : IsHeld X m) where
     -- by the frames of its log

@@ -1,5 +1,9 @@
 -- Each of the wrong behaviours is refused.
-use Rattle.std.proofs.Common.{◌≡◌, ℕ, Some, None, List, [], slice_get, arith, sym, ◌∙◌, ap, subst}
+use Rattle.std.proofs.Common.{◌≡◌, ℕ, ◌≤◌, Some, None, List, [], ◌∷◌, ◌++◌, All, length, slice_get}
+use Rattle.std.proofs.Common.{arith, sym, ◌∙◌, ap, subst}
+use Rattle.std.proofs.lemmas.List.Elements.{All-head, All-tail}
+use Rattle.bus_batch.proofs.FrameLaws.{same_log}
+use Rattle.bus_batch.specs.Frames.{Frame, items_of}
 use Rattle.bus_tenure.specs.Core.{Election}
 use Rattle.bus_machine.specs.Machine.{Machine, Trails}
 use Rattle.bus_machine.specs.Promise.{IsPromised, ReusesRows, ReusesSafely}
@@ -12,6 +16,13 @@ nothing_at i x l none e =
 reuses : {E : Type 0} (X : Election E) (m : Machine E) (T : Trails) (rows : ℕ) → m.reuse ≡ Some rows
     → IsPromised X m T → ReusesRows X m T rows
 reuses X m T rows some kept = subst (ReusesSafely X m T) some kept.by.reuse
+
+-- what is so of all frames is so of one among them
+few_within : (most : ℕ) (front rest : List Frame) (f : Frame)
+    → All (λ g. length (items_of g) ≤ most) (front ++ f ∷ rest) → length (items_of f) ≤ most
+few_within most [] rest f few = All-head (λ (g : Frame). length (items_of g) ≤ most) f rest few
+few_within most (h ∷ front) rest f few = few_within most front rest f
+    (All-tail (λ (g : Frame). length (items_of g) ≤ most) h (front ++ f ∷ rest) few)
 
 pub refused : {E : Type 0} (X : Election E) (m : Machine E) (T : Trails) → PromiseRefuses X m T
 refused {E} X m T = record {
@@ -37,4 +48,11 @@ refused {E} X m T = record {
         let k = reuses X m T rows some kept in
         let l = k.ready t stage (sym (k.holder p v t at held) ∙ none) in omega arith;
   };
+  long_frame = λ front rest f lawful are long kept.
+      let s = kept.by.spelled in
+      let same = same_log m.layout.senders 0 0 s.frames (front ++ f ∷ rest) s.lawful lawful
+      (s.words_are ∙ sym are) in
+      let low = few_within m.layout.batch front rest f
+      (subst (All (λ (g : Frame). length (items_of g) ≤ m.layout.batch)) same kept.by.few) in
+      omega arith;
 }

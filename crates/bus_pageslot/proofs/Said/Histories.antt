@@ -58,9 +58,9 @@ sized_at : {S : Type 0} (Q : Protocol S Bool Verdict) (G : Layout → Type 0)
     → G (layout_with Q senders rounds rows capacity passers batch))
     → (shape : Shape) (reuse : Option ℕ) (passers : ℕ) → G (layout_passed Q shape reuse passers)
 sized_at Q G h shape None passers =
-    h shape.senders shape.rounds shape.rows shape.log_words passers 16
+    h shape.senders shape.rounds shape.rows shape.log_words passers shape.batch
 sized_at Q G h shape (Some rows) passers =
-    h shape.senders shape.rounds TENURES shape.log_words passers 16
+    h shape.senders shape.rounds TENURES shape.log_words passers shape.batch
 
 pub sized : {S : Type 0} (Q : Protocol S Bool Verdict) (G : Layout → Type 0)
     → ((senders rounds rows capacity passers batch : ℕ)

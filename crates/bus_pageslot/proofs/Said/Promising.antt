@@ -131,6 +131,7 @@ seats_promised {C} P A L s r =
       order = p.order;
       owners = p.owners;
       spelled = p.spelled;
+      few = p.few;
       promises = λ heard shown. record {
         one_owner = q.one_owner;
         announced = q.announced;

@@ -1,10 +1,10 @@
 -- What is promised of senders and receivers of a bus whose rows are used again.
 use Rattle.std.specs.Prelude.{◌≡◌, ℕ, ◌+◌, ◌*◌, ◌<◌, ◌≤◌, Bool, false, Some, None, List}
-use Rattle.std.specs.Prelude.{slice_index}
+use Rattle.std.specs.Prelude.{slice_index, length, All}
 use Rattle.bus_register.specs.declared.registers.Op.{Op}
 use Rattle.bus_register.specs.declared.registers.SenderNo.{SenderNo}
 use Rattle.bus_register.specs.Words.{register}
-use Rattle.bus_batch.specs.Frames.{Order, Spells}
+use Rattle.bus_batch.specs.Frames.{Order, Spells, items_of}
 use Rattle.bus_deliverylog.specs.Receiving.{Receiving}
 use Rattle.bus_deliverylog.specs.declared.receiving.RecvTurn.{RecvTurn}
 use Rattle.bus_presence.specs.Standing.{IsSafe, Stands}
@@ -48,6 +48,8 @@ pub record KeepsPromises {E : Type 0} (X : Election E) (x : Layout) (rows : ℕ)
   pub takers : Takers y.owners D
   -- what was published spells the order and the owners, ..
   pub spelled : Spells x.senders L order owners
+  -- .. none of its frames has more messages than a batch may have, ..
+  pub few : All (λ f. length (items_of f) ≤ x.batch) spelled.frames
   -- .. and stands in the log from a floor on
   pub ring : ShowsRing x rows y.reclamation.words spelled.frames L floor
   -- the page has that floor, at home and out

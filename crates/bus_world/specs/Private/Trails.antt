@@ -1,9 +1,9 @@
 -- How events extend the trails, which trails lead to a bus with a row for each tenure, and what is
 -- promised of it then.
-use Rattle.std.specs.Prelude.{◌≡◌, ℕ, Option, Some, None, List, [], ◌∷◌, ◌++◌, slice_index}
-use Rattle.std.specs.Prelude.{if◌then◌else◌, ◌==◌, slice_get, slice_set}
+use Rattle.std.specs.Prelude.{◌≡◌, ◌≤◌, ℕ, Option, Some, None, List, [], ◌∷◌, ◌++◌, slice_index}
+use Rattle.std.specs.Prelude.{if◌then◌else◌, ◌==◌, slice_get, slice_set, length, All}
 use Rattle.bus_register.specs.declared.registers.SenderNo.{SenderNo}
-use Rattle.bus_batch.specs.Frames.{Order, Spells}
+use Rattle.bus_batch.specs.Frames.{Order, Spells, items_of}
 use Rattle.bus_deliverylog.specs.Receiving.{Receiving}
 use Rattle.bus_deliverylog.specs.declared.receiving.RecvTurn.{RecvTurn}
 use Rattle.bus_tenure.specs.Core.{Core, Election, Layout, log_at}
@@ -120,6 +120,8 @@ pub data Reached {E : Type 0} (X : Election E) (bases : List ℕ) (x : Layout) :
 pub record IsPromisedBy {E : Type 0} (bases : List ℕ) (x : Layout) (b : Bus E) (T : Trails)
     (order : Order) (owners : List (ℕ × SenderNo)) : Type 0 where
   pub spelled : Spells x.senders T.log order owners
+  -- none of whose frames has more messages than a batch may have
+  pub few : All (λ f. length (items_of f) ≤ x.batch) spelled.frames
   pub shows : words_read_from (slice_index b.side.words) (log_at x) (slice_index b.side.words 0)
       ≡ T.log
   pub takers : Takers b.side.owners T.actions

@@ -36,6 +36,7 @@ fn is_name(word: &[u8]) -> bool {
         b"Rounds".as_slice(),
         b"Rows".as_slice(),
         b"LogWords".as_slice(),
+        b"Batch".as_slice(),
         b"NoSuchSender".as_slice(),
         b"NoSuchReceiver".as_slice(),
         b"Closed".as_slice(),

@@ -39,6 +39,7 @@ fn shape(dice: &mut Dice) -> Shape {
         rounds: dice.below(8).wrapping_add(1),
         rows: dice.below(12).wrapping_add(1),
         log_words: dice.below(200).wrapping_add(16),
+        batch: 16,
     }
 }
 
@@ -50,6 +51,7 @@ fn first_line<R: Abort + AllocGlobal>(rt: &R, shape: Shape) -> String {
         rounds,
         rows,
         log_words,
+        ..
     } = shape;
     let line = format!(in rt.alloc(); "shape {senders} {receivers} {rounds} {rows} {log_words}\n");
     line.expect(rt, "memory")

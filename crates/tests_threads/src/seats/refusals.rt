@@ -17,7 +17,7 @@ fn many<R: Abort + AllocGlobal>(
         (FirstLine::Shape(shape), None) => Bus::<ThreeWord>::new(alloc, shape),
         (FirstLine::Shape(shape), Some(page)) => Bus::<ThreeWord>::after(alloc, shape, page),
         (FirstLine::Cycle(shape), page) => Bus::<ThreeWord>::cyclic(alloc, shape, page),
-        (FirstLine::Ring { .. }, _) => panic!(rt; "no row of these is of a ring"),
+        (FirstLine::Ring { shape, seats: _ }, page) => Bus::<ThreeWord>::ring(alloc, shape, page),
     };
     let (_, senders, taps) = made?;
     Ok((senders.len(), taps.len()))
@@ -29,6 +29,12 @@ fn as_many_as_the_shape_says_unless_memory_is_refused(rt: HostRuntime) {
         Ok(many) => assert_eq!(rt; many, (2, 1)),
         Err(fault) => assert_eq!(rt; fault, MakeFault::NoMemory),
     }
+}
+
+/// A ring whose batches have so many messages.
+fn ring_of(batch: u64) -> FirstLine {
+    let shape = Shape { batch, ..TWO_AGAIN };
+    FirstLine::Ring { shape, seats: 1 }
 }
 
 #[test]
@@ -47,6 +53,23 @@ fn shapes_that_are_refused(rt: HostRuntime) {
         (FirstLine::Cycle(Shape { rows: 0, ..TWO }), MakeFault::Rows),
         (FirstLine::Cycle(Shape { rows: 1, ..TWO }), MakeFault::Rows),
         (FirstLine::Cycle(Shape { rows: 9, ..TWO }), MakeFault::Rows),
+        (
+            FirstLine::Shape(Shape { batch: 64, ..TWO }),
+            MakeFault::Batch,
+        ),
+        (
+            FirstLine::Shape(Shape { batch: 15, ..TWO }),
+            MakeFault::Batch,
+        ),
+        (
+            FirstLine::Cycle(Shape {
+                batch: 17,
+                ..TWO_AGAIN
+            }),
+            MakeFault::Batch,
+        ),
+        (ring_of(0), MakeFault::Batch),
+        (ring_of(65), MakeFault::Batch),
     ] {
         assert!(rt; many(&rt, line, None) == Err(fault));
     }
@@ -77,5 +100,21 @@ fn pages_that_are_refused(rt: HostRuntime) {
         for line in [FirstLine::Shape(TWO), FirstLine::Cycle(TWO_AGAIN)] {
             assert!(rt; many(&rt, line, Some(&page)) == want);
         }
+    }
+}
+
+/// The numbers of a ring leave room for all its tenures, each with as many messages as a batch has.
+#[test]
+fn pages_that_rings_refuse(rt: HostRuntime) {
+    for (batch, most) in [
+        (1, 0xfeff_ffff_fffe_u64),
+        (16, 0xefff_ffff_ffef),
+        (64, 0xbfff_ffff_ffbf),
+    ] {
+        let line = ring_of(batch);
+        let page = page_with(most.saturating_add(1), true);
+        assert!(rt; many(&rt, line, Some(&page)) == Err(MakeFault::Numbers));
+        let page = page_with(most, true);
+        assert!(rt; many(&rt, line, Some(&page)) == Ok((2, 1)));
     }
 }

@@ -7,9 +7,6 @@ use crate::{NumbersError, Page, MOST_MESSAGES, MOST_SENDERS};
 const MAGIC: &[u8; 8] = b"KIOSKLOG";
 const VERSION: u64 = 1;
 
-/// The most messages of a batch that a header may say.
-const MOST_BATCH: u64 = 64;
-
 /// One above the greatest place that a header may say.
 const PLACES: u64 = 1 << 63;
 
@@ -60,7 +57,7 @@ impl Header {
         self.first.len()
     }
 
-    /// The most messages of a batch: 1 to 64, and 16 of a file that this crate has written.
+    /// The most messages of a batch: 1 to 64, and 64 of a file that this crate has written.
     pub fn most_messages(&self) -> u64 {
         self.most
     }
@@ -116,7 +113,7 @@ impl Header {
         let (front, sum) = bytes.split_at(bytes.len() - 8);
         let words = words_of(&front[SENDERS_END..]);
         let (most, place) = (words[0], words[1]);
-        let is_in_range = (1..=MOST_BATCH).contains(&most) && place < PLACES;
+        let is_in_range = (1..=MOST_MESSAGES as u64).contains(&most) && place < PLACES;
         if !is_in_range || sum != checksum(&[front]) {
             return Err(ReadError::DamagedHeader);
         }

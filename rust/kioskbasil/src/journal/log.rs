@@ -144,7 +144,7 @@ fn body_of(owner: u8, words: &[u64]) -> Option<Body> {
     }
 }
 
-/// The messages that these words are, at most 16: so no more than 128 words are any.
+/// The messages that these words are, at most 64: so no more than 512 words are any.
 fn items_of(owner: u8, mut words: &[u64]) -> Option<Vec<Item>> {
     let mut items = Vec::new();
     while let Some((&word, rest)) = words.split_first() {

@@ -29,7 +29,7 @@ pub struct Frame {
 /// What a frame says.
 #[derive(Clone, Debug, PartialEq, Eq)]
 pub enum Body {
-    /// These messages, one at least and at most 16, all of its owner.
+    /// These messages, one at least and at most 64, all of its owner.
     Items(Vec<Item>),
     /// Its owner has left, and nothing of it follows.
     Leave,

@@ -142,7 +142,7 @@ impl<S: State> Replica<S> {
     /// what comes later: by `flush`, `execute`, `leave`, `finish`, or where the batch has no room
     /// for the next one. What it answers nobody is told.
     ///
-    /// A batch has room for 16 operations of up to 55 bytes; a longer one counts for each 55 bytes
+    /// A batch has room for 64 operations of up to 55 bytes; a longer one counts for each 55 bytes
     /// begun. Numbers rise by as much: an operation has that of its last piece.
     pub fn submit(&mut self, operation: &[u8]) -> Result<u64, ReplicaError> {
         self.submit_while(operation, always)

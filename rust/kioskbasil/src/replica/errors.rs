@@ -8,9 +8,6 @@ use std::fmt;
 pub enum ReplicaError {
     /// An operation has more than 880 bytes. Nothing has changed.
     TooLong,
-    /// An operation is longer than the log, so it never has room. Nothing has changed. A log of 129
-    /// words has room for each.
-    NeverFits,
     /// The order has ended, or this worker has left it, or has begun to.
     Ended,
     /// The bus has no tenure left.
@@ -30,7 +27,6 @@ impl fmt::Display for ReplicaError {
     fn fmt(&self, f: &mut fmt::Formatter<'_>) -> fmt::Result {
         match self {
             ReplicaError::TooLong => f.write_str("an operation of more than 880 bytes"),
-            ReplicaError::NeverFits => f.write_str("an operation that is longer than the log"),
             ReplicaError::Ended => f.write_str("the order has ended, or this worker has left it"),
             ReplicaError::Spent => f.write_str("all tenures are spent"),
             ReplicaError::Stopped => f.write_str("told to stop, or its time is over"),

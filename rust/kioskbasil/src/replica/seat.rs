@@ -3,9 +3,8 @@
 use super::told::Told;
 use super::ReplicaError;
 use crate::bell::quietly;
-use crate::long::{join, pieces_of, words_of, Begun};
-use crate::{PutError, Receiver, Sender, TrySendError, Turn};
-use crate::{MOST_LONG_BYTES, MOST_MESSAGES};
+use crate::long::{join, pieces_of, Begun};
+use crate::{PutError, Receiver, Sender, TrySendError, Turn, MOST_LONG_BYTES};
 use std::sync::Arc;
 use std::task::{Context, Poll};
 
@@ -25,10 +24,8 @@ pub(crate) struct Seat {
     pub(crate) receiver: Receiver,
     pub(crate) told: Arc<Told>,
     worker: u32,
-    log_words: u64,
-    /// How many messages wait, and how many words of a frame they take.
-    waits: usize,
-    words: u64,
+    /// How many messages wait.
+    waits: u64,
     /// How many words the log had behind the last frame of messages that it has sent.
     sent: u64,
     /// An operation of several pieces.
@@ -42,20 +39,13 @@ pub(crate) struct Seat {
 }
 
 impl Seat {
-    pub(crate) fn new(
-        sender: Sender,
-        receiver: Receiver,
-        told: &Arc<Told>,
-        log_words: u64,
-    ) -> Seat {
+    pub(crate) fn new(sender: Sender, receiver: Receiver, told: &Arc<Told>) -> Seat {
         Seat {
             worker: u32::from(sender.number()),
             sender,
             receiver,
             told: told.clone(),
-            log_words,
             waits: 0,
-            words: 1,
             sent: 0,
             joined: [0; MOST_LONG_BYTES],
             is_leaving: false,
@@ -70,8 +60,7 @@ impl Seat {
     }
 
     /// Puts an operation into the batch, and gives the number of its last piece. None where the
-    /// batch is to be sent first: it has not so many messages left, or the frame would be longer
-    /// than the log.
+    /// batch is to be sent first: it has not so many messages left.
     ///
     /// No worker fails or leaves between two pieces. A put takes no turn and calls nothing of the
     /// user's, and the batch is one frame of the order: all pieces stand in it, or none does.
@@ -79,18 +68,13 @@ impl Seat {
         if operation.len() > MOST_LONG_BYTES {
             return Err(ReplicaError::TooLong);
         }
-        let (pieces, words) = (pieces_of(operation.len()), words_of(operation.len()));
-        if 1 + words > self.log_words {
-            return Err(ReplicaError::NeverFits);
-        }
-        let is_full = self.waits + pieces > MOST_MESSAGES;
-        if self.waits > 0 && (is_full || self.words + words > self.log_words) {
+        let pieces = pieces_of(operation.len()) as u64;
+        if self.waits + pieces > self.sender.batch_limit() {
             return Ok(None);
         }
         match self.sender.put_pieces(operation) {
             Ok(number) => {
                 self.waits += pieces;
-                self.words += words;
                 Ok(Some(number))
             }
             Err(PutError::Closed) => Err(ReplicaError::Ended),
@@ -162,7 +146,6 @@ impl Seat {
             // Idle where the answer before was lost, in a panic of a waker.
             Turn::Delivered { .. } | Turn::Idle => {
                 self.waits = 0;
-                self.words = 1;
                 self.sent = self.sender.words();
                 self.told.publish(self.sent);
                 Ok(true)

@@ -134,7 +134,7 @@ const MISSES_BERT: Result<(), ReplicaError> = Err(ReplicaError::MissingWorker(1)
 
 #[test]
 fn all_leave_and_have_the_same() {
-    let (anna, bert) = two(129);
+    let (anna, bert) = two(513);
     let works = |mut replica: Replica<Count>| {
         for _ in 0..50 {
             replica.submit(b"x").unwrap();
@@ -151,7 +151,7 @@ fn all_leave_and_have_the_same() {
 
 #[test]
 fn a_further_leave_goes_on_where_a_worker_was_missing() {
-    let (mut anna, mut bert) = two(129);
+    let (mut anna, mut bert) = two(513);
     anna.submit(b"x").unwrap();
     assert_eq!(anna.leave_while(|| false), MISSES_BERT);
     assert_eq!(anna.leave_timeout(A_WHILE), MISSES_BERT);
@@ -168,7 +168,7 @@ fn a_further_leave_goes_on_where_a_worker_was_missing() {
 /// It hears, and is read, but it puts nothing more. What others put it has still to hear.
 #[test]
 fn one_that_has_left_puts_nothing_and_reads_on() {
-    let (mut anna, mut bert) = two(129);
+    let (mut anna, mut bert) = two(513);
     assert_eq!(anna.execute(b"x").unwrap(), 0);
     assert_eq!(anna.leave_while(|| false), MISSES_BERT);
     assert_eq!(anna.submit(b"y"), Err(ReplicaError::Ended));
@@ -198,7 +198,7 @@ fn one_that_has_left_puts_nothing_and_reads_on() {
 /// taken, and operations can be put still. One that is stopped in `submit` is not put.
 #[test]
 fn a_further_leave_goes_on_where_an_operation_waited() {
-    let (mut anna, mut bert) = two(16);
+    let (mut anna, mut bert) = two(513);
     let mut put = 0;
     while anna.submit_while(b"operate", || false).is_ok() {
         put += 1;
@@ -224,12 +224,15 @@ fn a_further_leave_goes_on_where_an_operation_waited() {
     assert_eq!(leaves.join().unwrap(), (Ok(()), put + 1));
 }
 
-/// Five operations leave one word of the ring, and a leave mark takes two. So the first has not
-/// left itself, as long as the second does not hear.
+/// So many operations by themselves, each of three words, leave one word of a ring of 514.
+const ALL_BUT_A_WORD: usize = 171;
+
+/// The operations leave one word of the ring, and a leave mark takes two. So the first has not left
+/// itself, as long as the second does not hear.
 #[test]
 fn a_further_leave_goes_on_where_the_mark_had_no_room() {
-    let (mut anna, mut bert) = two(16);
-    for count in 0..5 {
+    let (mut anna, mut bert) = two(514);
+    for count in 0..ALL_BUT_A_WORD {
         assert_eq!(anna.execute(b"operate").unwrap(), count);
     }
     for _ in 0..3 {
@@ -239,31 +242,31 @@ fn a_further_leave_goes_on_where_the_mark_had_no_room() {
     }
     assert_eq!(
         (bert.hear(), anna.leave_while(|| false)),
-        (Ok(5), MISSES_BERT)
+        (Ok(ALL_BUT_A_WORD), MISSES_BERT)
     );
-    assert_eq!(bert.execute(b"operate").unwrap(), 5);
+    assert_eq!(bert.execute(b"operate").unwrap(), ALL_BUT_A_WORD);
     let leaves = thread::spawn(move || leaves_bit_by_bit(&mut bert));
     leaves_bit_by_bit(&mut anna);
     leaves.join().unwrap();
-    assert_eq!(applied(&anna), 6);
+    assert_eq!(applied(&anna), ALL_BUT_A_WORD + 1);
 }
 
 /// `into_state` without a leave, or in the middle of one, leaves as a drop does.
 #[test]
 fn a_state_may_be_taken_before_all_have_left() {
     for leaves in [false, true] {
-        let (mut anna, mut bert) = two(16);
-        for _ in 0..5 {
+        let (mut anna, mut bert) = two(514);
+        for _ in 0..ALL_BUT_A_WORD {
             anna.execute(b"operate").unwrap();
         }
         if leaves {
             assert!(anna.leave_while(|| false).is_err());
         }
         let state = anna.into_state();
-        assert_eq!(state.applied.load(Ordering::SeqCst), 5);
-        assert_eq!((bert.leave(), applied(&bert)), (Ok(()), 5));
+        assert_eq!(state.applied.load(Ordering::SeqCst), ALL_BUT_A_WORD);
+        assert_eq!((bert.leave(), applied(&bert)), (Ok(()), ALL_BUT_A_WORD));
     }
-    let (mut anna, bert) = two(129);
+    let (mut anna, bert) = two(513);
     drop(bert);
     anna.state.panics_at = Some(1);
     anna.submit(b"x").unwrap();
@@ -284,7 +287,7 @@ impl Wake for Panics {
 /// The answer that it has left is lost there, and is told by the next turn.
 #[test]
 fn a_further_leave_goes_on_where_a_waker_panics() {
-    let (mut anna, mut bert) = two(129);
+    let (mut anna, mut bert) = two(513);
     let waker = Waker::from(Arc::new(Panics));
     assert!(bert
         .poll_applied(&mut Context::from_waker(&waker))

@@ -2,7 +2,7 @@
 #![allow(dead_code)] // not each of them uses all of it
 
 use kioskbasil::replica::{Replica, Replicas, State};
-use kioskbasil::{Bus, Receiver, Sender, Shape};
+use kioskbasil::{Bus, Receiver, Sender, Shape, MOST_MESSAGES};
 use std::path::PathBuf;
 use std::sync::atomic::{AtomicUsize, Ordering};
 use std::sync::{mpsc, Arc};
@@ -21,11 +21,12 @@ pub fn bus(senders: usize, receivers: usize, rows: u64) -> (Vec<Sender>, Vec<Rec
     Bus::open(shape).unwrap()
 }
 
-/// A ring of so many words.
+/// A ring of so many words, with batches of as many messages as it may have.
 pub fn ring(senders: usize, receivers: usize, log_words: u64) -> (Vec<Sender>, Vec<Receiver>) {
     let shape = Shape {
         rounds: 1,
         log_words,
+        batch: ((log_words - 1) / 8).min(MOST_MESSAGES as u64),
         ..Shape::of(senders, receivers)
     };
     Bus::open_ring(shape).unwrap()

@@ -197,7 +197,7 @@ fn hidden_records_are_seen() {
 
 /// Records behind the first, each with its right checksum, with whose words no log goes on.
 #[rustfmt::skip]
-const BAD: [(&str, &str); 13] = [
+const BAD: [(&str, &str); 12] = [
     ("a tenure that is not above",
      "4040010000000000 8000000000000007 6df1688f5371967f"),
     ("a message without its tag",
@@ -224,11 +224,6 @@ const BAD: [(&str, &str); 13] = [
      "4040010000000003 c000000000000002 8d4f20830a1798a3"),
     ("padding",
      "4040020000000003 8040000000000007 6100000000000001 674564e00a4d909f"),
-    ("17 messages",
-     "4040110000000003 8000000000000007 8000000000000008 8000000000000009 800000000000000a \
-      800000000000000b 800000000000000c 800000000000000d 800000000000000e 800000000000000f \
-      8000000000000010 8000000000000011 8000000000000012 8000000000000013 8000000000000014 \
-      8000000000000015 8000000000000016 8000000000000017 82ffaf3142cf4003"),
 ];
 
 #[test]
@@ -239,6 +234,20 @@ fn bad_words_are_damaged() {
         let cut = &bytes[..bytes.len() - 1];
         assert_eq!(told(cut), (1, End::Torn { at: 96 }), "{name}");
     }
+}
+
+/// A frame of the most messages that one may have, and of one more.
+#[test]
+fn more_than_64_messages_are_damaged() {
+    let words = |many: u64| (7..7 + many).map(|number| format!("80000000000000{number:02x}"));
+    let record = |head: &str, many, sum: &str| {
+        let words = words(many).collect::<String>();
+        bytes(&[HEADER, FIRST, head, &words, sum])
+    };
+    let most = record("4040400000000003", 64, "5002d891c8bd937b");
+    assert_eq!(told(&most), (2, End::Whole));
+    let more = record("4040410000000003", 65, "999dae81d2b79a2f");
+    assert_eq!(told(&more), (1, End::Damaged { at: 96 }));
 }
 
 /// What follows an end, and a frame of who has left.
@@ -265,8 +274,8 @@ fn nothing_follows_an_end_or_a_leave() {
     assert!(!read.has_ended());
 }
 
-/// The longest frame and the last tenure and number are read; a frame with a word more is not, also
-/// where the header allows its count.
+/// The longest frame that a header allows and the last tenure and number are read; a frame with a
+/// word more is not.
 #[test]
 fn limits_are_read() {
     let message = |number: u64| {
@@ -275,25 +284,29 @@ fn limits_are_read() {
             "6161616161616161".repeat(7)
         )
     };
-    let messages: String = (7..23).map(message).collect();
-    let longest = bytes(&[
-        HEADER,
-        FIRST,
-        "404080ffffffffff",
-        &messages,
-        "2eed4508d35e0847",
-    ]);
-    assert_eq!(told(&longest), (2, End::Whole));
-    assert_eq!(
-        journal::read_from(&longest[..]).unwrap().next_numbers(),
-        [9, 23]
-    );
+    let messages = |many: u64| (7..7 + many).map(message).collect::<String>();
     let wide = "4b494f534b4c4f47 0000000000000001 0000000000000002 0000000000000040 \
          0000000000000005 0000000000000009 0000000000000004 484c796a7ee160cf";
+    let longest = [
+        (HEADER, "404080ffffffffff", 16, "2eed4508d35e0847"),
+        (wide, "404200ffffffffff", 64, "1ce195d904a16473"),
+    ];
+    for (header, head, many, sum) in longest {
+        let longest = bytes(&[header, FIRST, head, &messages(many), sum]);
+        assert_eq!(told(&longest), (2, End::Whole));
+        let read = journal::read_from(&longest[..]).unwrap();
+        assert_eq!(read.next_numbers(), [9, 7 + many]);
+    }
     let more = "8000000000000017 8ed837a5f1afa46f";
-    let longer = bytes(&[wide, FIRST, "4040810000000003", &messages, more]);
-    assert_eq!(told(&longer), (1, End::Damaged { at: 96 }));
-    assert_eq!(told(&longer[..longer.len() - 1]), (1, End::Torn { at: 96 }));
+    let of_17 = |header| bytes(&[header, FIRST, "4040810000000003", &messages(16), more]);
+    let more = "8000000000000047 71137f9f7c214edf";
+    let of_65 = bytes(&[wide, FIRST, "4042010000000003", &messages(64), more]);
+    assert_eq!(told(&of_17(wide)), (2, End::Whole));
+    for longer in [of_17(HEADER), of_65] {
+        for bytes in [&longer[..], &longer[..longer.len() - 1]] {
+            assert_eq!(told(bytes), (1, End::Damaged { at: 96 }));
+        }
+    }
     let last = bytes(&[
         HEADER,
         FIRST,

@@ -13,7 +13,9 @@ fn send(mut sender: Sender, messages: u64) -> Sender {
     for number in 0..messages {
         let byte = sender.number().wrapping_add(number as u8);
         sender.put(&vec![byte; number as usize % 57]).unwrap();
-        if number % (3 + u64::from(sender.number())) == 0 || sender.pending() == 16 {
+        if number % (3 + u64::from(sender.number())) == 0
+            || sender.pending() == sender.batch_limit()
+        {
             assert!(sender.send_when_room(|| true).is_ok());
         }
     }
@@ -34,8 +36,9 @@ fn record<F: JournalFile>(mut receiver: Receiver, mut journal: Journal<F>) -> (V
 /// A sitting of three workers after a page, recorded in this file; and what a receiver was given.
 fn sitting(page: Page, path: PathBuf, messages: u64) -> (Vec<Item>, Vec<Frame>) {
     let shape = Shape {
-        log_words: 256,
+        log_words: 257,
         ring: true,
+        batch: 32,
         ..Shape::of(3, 2)
     };
     let (senders, mut receivers) = Bus::open_after(shape, page).unwrap();

@@ -1,6 +1,6 @@
 //! Journals, as they are written.
 
-use super::common::in_time;
+use super::common::{in_time, ring};
 use super::disk::{Call, Disk, Failing, Plates};
 use super::{bytes, failure, header, heard, small, Folder, ENDS, FIRST, HEADER};
 use kioskbasil::journal::{self, Doing, End, Header, Journal, JournalError};
@@ -14,14 +14,14 @@ fn these_bytes_are_written() {
     let page = Page::from_numbers(&[9, 4]).unwrap();
     let two = Header::after(2, &page).unwrap();
     let journal = Journal::on(Vec::new(), two, SyncPolicy::Never).unwrap();
-    let wanted = "4b494f534b4c4f47 0000000000000001 0000000000000002 0000000000000010 \
-         0000000000000000 0000000000000009 0000000000000004 e050de4d85c26d8f";
+    let wanted = "4b494f534b4c4f47 0000000000000001 0000000000000002 0000000000000040 \
+         0000000000000000 0000000000000009 0000000000000004 0cb0289df6e2e3e3";
     assert_eq!(journal.into_file(), bytes(&[wanted]));
 
     let mut journal = Journal::on(Vec::new(), header(1), SyncPolicy::EachFrame).unwrap();
     journal.write(&heard(1)[0]).unwrap();
-    let one = "4b494f534b4c4f47 0000000000000001 0000000000000001 0000000000000010 \
-         0000000000000000 0000000000000000 5c97e020be06152b";
+    let one = "4b494f534b4c4f47 0000000000000001 0000000000000001 0000000000000040 \
+         0000000000000000 0000000000000000 7bf888e657c2e37b";
     let record = "4000020000000000 8040000000000000 6100000000000000 2d3c62919a3485bf";
     let safe = journal.safe();
     assert_eq!((safe.place, safe.frames, safe.bytes), (3, 1, 88));
@@ -54,7 +54,7 @@ fn other_frames_are_not_next() {
         of(|it| it.place += 1),
         of(|it| it.body = Body::Items(Vec::new())),
         of(|it| it.body = Body::Items(vec![it.items()[0]; 2])),
-        of(|it| it.body = Body::Items(vec![it.items()[0]; 17])),
+        of(|it| it.body = Body::Items(vec![it.items()[0]; 65])),
     ];
     for frame in &wrong {
         assert!(refused(&mut journal, frame), "{frame:?}");
@@ -68,6 +68,27 @@ fn other_frames_are_not_next() {
     assert!(refused(&mut journal, &frames[2]));
     let read = journal::read_from(&journal.into_file()[..]).unwrap();
     assert_eq!(read.frames(), [frames[0].clone(), next.clone(), end]);
+}
+
+/// The longest frames of a ring are heard whole, recorded, and given back.
+#[test]
+fn frames_of_64_messages_are_written() {
+    let (mut senders, mut receivers) = ring(1, 1, 513);
+    let mut journal = Journal::on(Vec::new(), header(1), SyncPolicy::EachFrame).unwrap();
+    let mut frames = Vec::new();
+    for _ in 0..3 {
+        let messages = (0..64u8).map(|number| [number; 56]);
+        senders[0].send_all(messages).unwrap();
+        let frame = receivers[0].try_frame().unwrap();
+        assert_eq!((frame.items().len(), frame.words().len()), (64, 513));
+        journal.write(&frame).unwrap();
+        frames.push(frame);
+    }
+    let bytes = journal.into_file();
+    assert_eq!(bytes.len(), 56 + 3 * 8 * 514);
+    let read = journal::read_from(&bytes[..]).unwrap();
+    assert_eq!((read.frames(), read.end()), (&frames[..], End::Whole));
+    assert_eq!((read.header().most_messages(), read.place()), (64, 3 * 513));
 }
 
 #[test]

@@ -46,15 +46,17 @@ returns-clause-one_cause g c plan page why other r s =
     one_cause_after (plan_passers plan) plan.shape plan.reuse page why other r s
 
 pub returns-clause-memory : goal.returns-clause-memory
-returns-clause-memory g c plan None ok are r = ((r, ok, are), tt)
-returns-clause-memory g c plan (Some page) ok are r = ((r.0, ok, are), r.1)
+returns-clause-memory g c plan None ok are r =
+    (record { sizes = r.0; shape = ok; bases = are; batch = r.1 }, tt)
+returns-clause-memory g c plan (Some page) ok are r =
+    (record { sizes = r.0.0; shape = ok; bases = are; batch = r.0.1 }, r.1)
 
 pub returns-clause-no_memory : goal.returns-clause-no_memory
-returns-clause-no_memory g c plan None h may = h.0
-returns-clause-no_memory g c plan (Some page) h may = (h.0, may)
+returns-clause-no_memory g c plan None h may = (h.sizes, h.batch)
+returns-clause-no_memory g c plan (Some page) h may = ((h.sizes, h.batch), may)
 
 pub returns-clause-numbers : goal.returns-clause-numbers
-returns-clause-numbers g c plan s h = h.2.1 s
+returns-clause-numbers g c plan s h = h.bases.1 s
 
 pub returns-clause-automaton : goal.returns-clause-automaton
 unfolding process_with automaton_with
@@ -78,12 +80,12 @@ returns-clause-opens g c plan h =
     let P = g.Q.Ratifier.protocol in
     let X = election_with g.Q.Machine.kind_of g.Q.Machine.op g.Q.Machine.fed P in
     opens X (layout_by P plan) plan.reuse plan.bases
-    (is_layout P plan.shape plan.reuse (plan_passers plan) h.0
-    (few_passers plan.reuse plan.ring plan.shape.receivers h.0.receivers.1))
+    (is_layout P plan.shape plan.reuse (plan_passers plan) h.sizes
+    (few_passers plan.reuse plan.ring plan.shape.receivers h.sizes.receivers.1) h.batch)
     (none_apart P plan.shape plan.reuse plan.ring plan.shape.receivers)
-    (has_rows plan.shape plan.reuse h.0 h.1) h.2.0
+    (has_rows plan.shape plan.reuse h.sizes h.shape) h.bases.0
     (λ s. planned_low P plan.shape plan.reuse (plan_passers plan) (slice_index plan.bases s)
-    (h.2.1 s))
+    (h.bases.1 s))
 
 pub returns-clause-batch : goal.returns-clause-batch
 unfolding automaton_with

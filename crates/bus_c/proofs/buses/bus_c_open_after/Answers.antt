@@ -1,4 +1,5 @@
 use Rattle.std.proofs.Common.{Ok, Err, refl}
+use Rattle.bus_handles.specs.declared.answers.RingFault.TheVariants.{Make}
 use Rattle.bus_world.specs.declared.shapes.MakeFault.TheVariants.{NoMemory}
 use Rattle.bus_c.proofs.buses.bus_c_open_after.Goals as goal
 
@@ -7,7 +8,8 @@ returns-in-Ok-hand_out c = record {
   given = Ok (c.in-Ok.sending.items, c.in-Ok.receiving.items);
   opens = (
     c.in-Ok.ensures.opened,
-    c.in-Ok.ensures.served,
+    c.in-Ok.ensures.served.0,
+    c.in-Ok.ensures.served.1,
     c.in-Ok.ensures.follows,
     c.in-Ok-hand_out.ensures.filled.0,
     c.in-Ok-hand_out.ensures.filled.1,
@@ -17,9 +19,9 @@ returns-in-Ok-hand_out c = record {
 
 pub returns-in-Err-hand_out : goal.returns-in-Err-hand_out
 returns-in-Err-hand_out c = record {
-  given = Err NoMemory;
+  given = Err (Make NoMemory);
   opens = (
-    (c.in-Ok.ensures.served, c.in-Ok.ensures.follows),
+    ((c.in-Ok.ensures.served.0, c.in-Ok.ensures.follows), λ _. c.in-Ok.ensures.served.1),
     c.in-Err-hand_out.ensures.refused.0,
     c.in-Err-hand_out.ensures.refused.1,
   );

@@ -2,8 +2,8 @@ use Rattle.std.proofs.Common.{Bool, codes, refl, ◌∙◌}
 use Rattle.clap.specs.Words.{Text, found_of, one_text, one_of, rows_of}
 use Rattle.clap.proofs.WalkLemmas.{one_text-rows}
 use Rattle.clap.specs.declared.parser.matches.ArgMatches.{ArgMatches}
-use Rattle.bus_commands.proofs.Naming.{Flagged, not_given, not_left_out, of_run, of_trace}
-use Rattle.bus_commands.proofs.Naming.{of_journal}
+use Rattle.bus_commands.proofs.Naming.{Flagged, not_given, not_left_out, of_log, of_run}
+use Rattle.bus_commands.proofs.Naming.{of_journal, of_trace}
 use Rattle.bus_commands.proofs.command_line.task_of.Goals as goal
 
 -- by the rows of a command
@@ -147,6 +147,11 @@ returns-in-run-3 c =
       messages = r.messages;
       seed = r.seed;
     } (λ a b. refl) (λ a. absurd (off a)) (λ a b. absurd (off' b))
+
+pub returns-in-log : goal.returns-in-log
+returns-in-log c =
+    of_log c.args.name.now (rows_of (found_of c.args.given.now)) c.number_of.result
+    c.number_of-in-log.result c.in-log.is c.number_of.ensures c.number_of-in-log.ensures
 
 pub returns-in-journal : goal.returns-in-journal
 returns-in-journal c =

@@ -36,7 +36,11 @@ returns-clause-run_journal c = (_, refl, (inr refl, refl))
 
 pub returns-clause-log : goal.returns-clause-log
 unfolding clap_on_literals
-returns-clause-log c = (_, refl, refl)
+returns-clause-log c = (_, refl, (refl, refl))
+
+pub returns-clause-log_batch : goal.returns-clause-log_batch
+unfolding clap_on_literals
+returns-clause-log_batch c = (_, refl, (refl, refl))
 
 pub returns-clause-journal : goal.returns-clause-journal
 unfolding clap_on_literals

@@ -1,4 +1,5 @@
 use Rattle.std.proofs.Common.{refl, ◌∙◌, subst}
+use Rattle.bus_register.specs.declared.limits.TheConstants.{MOST_MESSAGES}
 use Rattle.bus_batch.specs.Frames.{Spells, order_in, owners_in}
 use Rattle.bus_batch.proofs.FrameLaws.{spells_one}
 use Rattle.bus_deliverylog.specs.Logs.{IsTorn}
@@ -9,7 +10,8 @@ pub returns-then-inside-clause-torn : goal.returns-then-inside-clause-torn
 returns-then-inside-clause-torn c _ =
     let r = c.in_ok-read.ensures.read in
     subst (λ z. IsTorn z c.args.words.now) r.senders_are (record {
-      good = begins c.in_ok-read.reader.senders c.args.words.now r.pieces c.in_ok-read.reader r.had;
+      good = begins MOST_MESSAGES c.in_ok-read.reader.senders c.args.words.now r.pieces
+          c.in_ok-read.reader r.had;
       unfinished = c.if-inside.ensures.torn _ c.args.words.now r.pieces r.had refl;
     })
 

@@ -1,5 +1,6 @@
 use Rattle.std.proofs.Common.{◌≡◌, ◌+◌, get_or, take, [], ◌∷◌, ◌++◌, refl, sym, subst, arith}
 use Rattle.std.proofs.lemmas.List.{take_all, take_more}
+use Rattle.bus_register.specs.declared.limits.TheConstants.{MOST_MESSAGES}
 use Rattle.bus_batch.specs.Frames.{BeginsLog, IsBadWord}
 use Rattle.bus_deliverylog.specs.Orders.{order_held}
 use Rattle.bus_deliverylog.specs.Logs.{Reads, IsFirstBad}
@@ -29,7 +30,8 @@ returns-in-Err-clause-begins c log =
     (get_or c.args.words.now c.loop-place.place 0)) c.loop-place.invariant.reads.senders_are
     ((c.in-Err.ensures.bad _ (take c.loop-place.place c.args.words.now)
     c.loop-place.invariant.reads.pieces c.loop-place.invariant.reads.had).0 refl))
-    (front_begins c.args.senders c.loop-place.place c.args.words.now c.loop-place-test.true log))
+    (front_begins MOST_MESSAGES c.args.senders c.loop-place.place c.args.words.now
+    c.loop-place-test.true log))
 
 pub returns-in-Err-clause-bad : goal.returns-in-Err-clause-bad
 returns-in-Err-clause-bad c place e =
@@ -38,8 +40,9 @@ returns-in-Err-clause-bad c place e =
       below = c.loop-place-test.true;
       good = subst (λ z. BeginsLog z (take c.loop-place.place c.args.words.now))
           c.loop-place.invariant.reads.senders_are
-          (begins c.loop-place.reader.senders (take c.loop-place.place c.args.words.now)
-          c.loop-place.invariant.reads.pieces c.loop-place.reader c.loop-place.invariant.reads.had);
+          (begins MOST_MESSAGES c.loop-place.reader.senders
+          (take c.loop-place.place c.args.words.now) c.loop-place.invariant.reads.pieces
+          c.loop-place.reader c.loop-place.invariant.reads.had);
       bad =
           (subst (λ z. IsBadWord z (take c.loop-place.place c.args.words.now)
           (get_or c.args.words.now c.loop-place.place 0)) c.loop-place.invariant.reads.senders_are
@@ -56,7 +59,7 @@ returns-in_err-note-in-Ok-clause-no_memory c _ = record {
       (subst (λ z. BeginsLog z (take c.loop-place.place c.args.words.now
       ++ get_or c.args.words.now c.loop-place.place 0 ∷ []))
       c.loop-place.invariant.reads.senders_are
-      (begins c.loop-place.reader.senders (take c.loop-place.place c.args.words.now
+      (begins MOST_MESSAGES c.loop-place.reader.senders (take c.loop-place.place c.args.words.now
       ++ get_or c.args.words.now c.loop-place.place 0 ∷ [])
       (c.loop-place.invariant.reads.pieces ++ c.in-Ok.found ∷ []) c.feed.new.self
       (c.in-Ok.ensures.read _ (take c.loop-place.place c.args.words.now)

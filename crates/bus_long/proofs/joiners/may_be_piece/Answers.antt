@@ -8,10 +8,10 @@ returns-then-is_empty-clause-some c follow bytes is =
     eqb-true (length c.args.message.now) 0 (sym c.is_empty.ensures ∙ c.if-is_empty.true) in
     let some = ap length is in absurd (omega arith)
 
-pub returns-then-message-ge-MOST_MESSAGES-clause-some
-    : goal.returns-then-message-ge-MOST_MESSAGES-clause-some
-returns-then-message-ge-MOST_MESSAGES-clause-some c follow bytes is =
-    high_is_none c.args.message.now follow bytes is c.if-message-ge-MOST_MESSAGES.true
+pub returns-then-message-ge-MOST_PIECES-clause-some
+    : goal.returns-then-message-ge-MOST_PIECES-clause-some
+returns-then-message-ge-MOST_PIECES-clause-some c follow bytes is =
+    high_is_none c.args.message.now follow bytes is c.if-message-ge-MOST_PIECES.true
 
 pub returns-then-message-eq0-clause-some : goal.returns-then-message-eq0-clause-some
 returns-then-message-eq0-clause-some c follow bytes is =
@@ -19,5 +19,5 @@ returns-then-message-eq0-clause-some c follow bytes is =
 
 pub returns-else-message-eq0-clause-some : goal.returns-else-message-eq0-clause-some
 returns-else-message-eq0-clause-some c follow bytes is =
-    inner_may_be c.args.message.now follow bytes is c.if-message-ge-MOST_MESSAGES.false
+    inner_may_be c.args.message.now follow bytes is c.if-message-ge-MOST_PIECES.false
     (omega arith)

@@ -7,7 +7,8 @@ pub returns-in_default-clause-are : goal.returns-in_default-clause-are
 returns-in_default-clause-are c = no_bases_are
 
 pub returns-in_default-clause-low : goal.returns-in_default-clause-low
-returns-in_default-clause-low c = no_bases_low c.args.passers
+returns-in_default-clause-low c s =
+    no_bases_low c.args.passers c.args.batch s (c.is_batch.ensures.0 c.if-not-is_batch.false)
 
 pub returns-clause-are : goal.returns-clause-are
 returns-clause-are c = record {

@@ -28,7 +28,7 @@ invariant_of-bus g c =
     let table = c.in_ok-words.ensures.bus_table in
     let many = c.passers-passers.ensures.is in
     let passed = log.passed in
-    let words = c.requires.served.0.log_words.0 in
+    let words = c.requires.served.sizes.log_words.0 in
     subst (λ (p : Plan).
     (shape.senders ≡ p.shape.senders) × (shape.senders ≡ (B p).table_layout.senders)
     × (bases ≡ p.bases) × (bases ≡ (B p).bases)

@@ -3,7 +3,7 @@ use Rattle.std.specs.Option.{option_copied}
 use Rattle.bus_automaton.specs.Buses.{process_with, automaton_with, plan_passers, AreBasesOf}
 use Rattle.bus_automaton.specs.Buses.{Serves}
 use Rattle.bus_automaton.specs.declared.plans.Plan.{Plan}
-use Rattle.bus_machine.proofs.Bases.NewSenders.{no_memory_after}
+use Rattle.bus_machine.proofs.Bases.NewSenders.{no_memory_after, page_after}
 use Rattle.bus_machine.specs.Playing.{RefusedWith}
 use Rattle.bus_pageslot.specs.Buses.{AreNewSeats, AreNewTaps}
 use Rattle.bus_world.proofs.PlayingLaws.{passed_up}
@@ -11,12 +11,22 @@ use Rattle.bus_pageslot.proofs.buses.make.Goals as goal
 
 pub build-requires : goal.build-requires
 build-requires g c = record {
-  served = subst Serves (sym c.in_ok-next.ensures.plan) (
-    c.in_default.ensures.served refl,
-    c.requires.shape,
-    subst AreBasesOf c.in_ok-next.ensures.plan c.in_ok-next.ensures.bases,
-  );
+  served = subst Serves (sym c.in_ok-next.ensures.plan) (record {
+    sizes = c.in_default.ensures.served refl;
+    shape = c.requires.shape;
+    bases = subst AreBasesOf c.in_ok-next.ensures.plan c.in_ok-next.ensures.bases;
+    batch = c.in_ok-next.ensures.batch;
+  });
 }
+
+pub returns-in_err-next-clause-fault : goal.returns-in_err-next-clause-fault
+returns-in_err-next-clause-fault g c =
+    passed_up _ _ (RefusedWith (plan_passers c.args.plan) c.args.plan.shape c.args.plan.reuse
+    (option_copied c.args.page))
+    c.from_residual.ensures
+    (page_after c.args.plan.shape c.args.plan.reuse (plan_passers c.args.plan)
+    (option_copied c.args.page) _
+    (c.in_default.ensures.served refl) c.in_err-next.ensures.fault)
 
 pub returns-in_err-made-clause-fault : goal.returns-in_err-made-clause-fault
 returns-in_err-made-clause-fault g c =
@@ -25,7 +35,7 @@ returns-in_err-made-clause-fault g c =
     c.from_residual-in_err-made.ensures
     (no_memory_after c.args.plan.shape c.args.plan.reuse (plan_passers c.args.plan)
     (option_copied c.args.page)
-    (c.in_default.ensures.served refl) c.in_ok-next.ensures.follows)
+    (c.in_default.ensures.served refl) c.in_ok-next.ensures.batch c.in_ok-next.ensures.follows)
 
 pub returns-clause-plan : goal.returns-clause-plan
 returns-clause-plan g c = c.in_ok-made.ensures.plan ∙ c.in_ok-next.ensures.plan

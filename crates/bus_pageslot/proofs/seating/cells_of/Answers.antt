@@ -12,7 +12,7 @@ returns g c =
       log_is = c.requires.log;
       capacity_is = c.requires.capacity;
       passed_is = c.passed_place-passed_at.ensures;
-      some = (let w = c.requires.served.0.log_words.0 in let same = c.requires.capacity in
+      some = (let w = c.requires.served.sizes.log_words.0 in let same = c.requires.capacity in
           omega arith);
       room = L.room;
       few = c.requires.room;

@@ -1,4 +1,5 @@
 use Rattle.std.proofs.Common.{arith, subst}
+use Rattle.bus_register.specs.declared.limits.TheConstants.{MOST_MESSAGES}
 use Rattle.bus_batch.specs.Batches.{IsKept}
 use Rattle.bus_batch.proofs.BatchLaws.{is_frame}
 use Rattle.bus_batch.proofs.Batching.{body_least}
@@ -13,7 +14,7 @@ returns-clause-least c =
 pub returns-clause-lawful : goal.returns-clause-lawful
 returns-clause-lawful c senders tenure owner below =
     let kept = subst IsKept c.self.view_is c.self.invariant.0 in
-    is_frame 16 c.args.self.now senders tenure kept.limit_few c.requires kept owner below
+    is_frame MOST_MESSAGES c.args.self.now senders tenure kept.limit_few c.requires kept owner below
 
 pub returns-clause-limited : goal.returns-clause-limited
 returns-clause-limited c senders tenure owner below =

@@ -1,7 +1,7 @@
 use Rattle.std.proofs.Common.{Some, ◌+◌, ◌*◌, ◌≤◌, map, refl, sym, arith, ap, subst}
 use Rattle.bus_core.proofs.Reusing.Widths.{few_words}
 use Rattle.bus_machine.proofs.Bases.NewSenders.{made_new, made_held, no_memory_after, passed_apart}
-use Rattle.bus_machine.proofs.Bases.NewSenders.{with_width}
+use Rattle.bus_machine.proofs.Bases.NewSenders.{page_after, with_width}
 use Rattle.bus_machine.proofs.Onward.StageRises.{log_behind}
 use Rattle.bus_core.specs.declared.limits.TheConstants.{PASSED_APART}
 use Rattle.bus_machine.specs.Machine.{New}
@@ -38,7 +38,8 @@ invariant_of-result g c =
     (c.log_word-first.result + PASSED_APART * c.args.passers) c.args.shape.log_words o
     c.args.shape.receivers c.in_ok-receivers.receivers.items) c.first_passed-passed.ensures
     c.in_ok-receivers.ensures) _ refl _ (ap (map (λ s. s.0)) c.new-2.ensures) in
-    made_held X P c.args.shape c.args.reuse c.args.passers c.requires.each served c.requires.rows _
+    made_held X P c.args.shape c.args.reuse c.args.passers c.requires.each served
+    c.in_ok-bases.ensures.batch c.requires.rows _
     new refl refl c.in_ok-senders.ensures.many_are
 
 pub returns-clause-made : goal.returns-clause-made
@@ -58,6 +59,7 @@ returns-clause-made g c =
     c.in_ok-receivers.ensures) _ refl _ (ap (map (λ s. s.0)) c.new-2.ensures) in
     record {
       served = served;
+      batch = c.in_ok-bases.ensures.batch;
       layout = refl;
       rows = refl;
       bases_are = c.in_ok-bases.ensures.bases;
@@ -67,13 +69,21 @@ returns-clause-made g c =
       begins = New _ new;
     }
 
+pub returns-in_err-bases-clause-fault : goal.returns-in_err-bases-clause-fault
+returns-in_err-bases-clause-fault g c =
+    passed_up _ _
+    (RefusedWith c.args.passers c.args.shape c.args.reuse (option_copied c.args.page))
+    c.from_residual.ensures
+    (page_after c.args.shape c.args.reuse c.args.passers (option_copied c.args.page) _
+    (c.in_default.ensures.served refl) c.in_err-bases.ensures.fault)
+
 pub returns-in_err-receivers-clause-fault : goal.returns-in_err-receivers-clause-fault
 returns-in_err-receivers-clause-fault g c =
     passed_up _ _
     (RefusedWith c.args.passers c.args.shape c.args.reuse (option_copied c.args.page))
     c.from_residual-in_err-receivers.ensures
     (no_memory_after c.args.shape c.args.reuse c.args.passers (option_copied c.args.page)
-    (c.in_default.ensures.served refl) c.in_ok-bases.ensures.follows)
+    (c.in_default.ensures.served refl) c.in_ok-bases.ensures.batch c.in_ok-bases.ensures.follows)
 
 pub new_receivers-requires-clause-apart : goal.new_receivers-requires-clause-apart
 new_receivers-requires-clause-apart g c =

@@ -1,4 +1,4 @@
-use Rattle.bus_handles.proofs.opening.open_ring.Goals as goal
+use Rattle.bus_handles.proofs.opening.opened_ring.Goals as goal
 
 pub returns-clause-opened : goal.returns-clause-opened
 returns-clause-opened g c = record {
